@@ -1,0 +1,14 @@
+pub mod Limits
+pub mod Numbers
+pub mod Sets
+pub mod Paths
+pub mod Counters
+pub mod Answers
+pub mod Graph
+pub mod Tree
+pub mod Bits
+pub mod Layout
+pub mod Faults
+pub mod Sheet
+pub mod Judge
+pub mod Known

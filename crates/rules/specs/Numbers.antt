@@ -1,0 +1,46 @@
+-- The numbers of document 01's table, "What the judge says". 1 to 7 are refusals, the others verdicts.
+use Prim.Native.Nat.{ℕ}
+
+-- path valid for policy
+abbrev pub valid : ℕ
+valid = 0
+
+-- the sheet ends inside or before the next field
+abbrev pub sheet-ends : ℕ
+sheet-ends = 1
+
+-- edition is not 1
+abbrev pub wrong-edition : ℕ
+wrong-edition = 2
+
+-- n is 0 or above 10, user count above 16, or a certificate's present count 0 or above 16
+abbrev pub wrong-count : ℕ
+wrong-count = 3
+
+-- a policy is 0, in any list
+abbrev pub policy-zero : ℕ
+policy-zero = 4
+
+-- a policy repeats within one certificate's policies
+abbrev pub policy-repeats : ℕ
+policy-repeats = 5
+
+-- a fill bit is not zero, or bytes follow
+abbrev pub not-at-end : ℕ
+not-at-end = 6
+
+-- a lent table is too short
+abbrev pub table-short : ℕ
+table-short = 7
+
+-- after certificate i's policies, explicit_policy is 0 and there is no graph
+abbrev pub no-graph : ℕ
+no-graph = 8
+
+-- a mapping of certificate i names anyPolicy
+abbrev pub any-mapped : ℕ
+any-mapped = 9
+
+-- at the end, explicit_policy is 0 and the user set is empty
+abbrev pub user-empty : ℕ
+user-empty = 10

@@ -1,0 +1,89 @@
+ghost use mathlib.Core.Path.{_≡_};
+ghost use Rattle.rules.specs.Limits as Limits;
+
+// The data of document 01 in the code's own types, and its limits.
+
+// "A path has n certificates, 1 to 10."
+pub const CERTIFICATES: usize = 10;
+
+// The most policies, mapping pairs or user policies of a list.
+pub const LISTED: usize = 16;
+
+// The places of a lent table: every policy and every mapping issuer before the last certificate's.
+pub const TABLE: usize = CERTIFICATES * LISTED + (CERTIFICATES - 1) * LISTED;
+
+// The depths of the graph, 0 to the last certificate's.
+pub const DEPTHS: usize = CERTIFICATES + 1;
+
+// The bits of the longest sheet: the head with its user policies, and each certificate.
+pub const SHEET_BITS: usize = 4
+    + 4
+    + 3
+    + 5
+    + 16 * LISTED
+    + CERTIFICATES * (1 + 1 + 5 + 16 * LISTED + 1 + 5 + 32 * LISTED + 3 * (1 + 8));
+
+// The bytes of the longest sheet.
+pub const SHEET_BYTES: usize = (SHEET_BITS + 7) / 8;
+
+// A skip value: absent, or a number of certificates. Absent is not zero.
+pub enum Skip {
+    Absent,
+    Certificates(u8),
+}
+
+// A certificate. Of each array the first places, as many as its count says, are in use.
+pub struct Certificate {
+    pub self_issued: bool,
+    pub policy_count: usize,
+    pub policies: [u16; LISTED],
+    pub mapping_count: usize,
+    pub issuers: [u16; LISTED],
+    pub subjects: [u16; LISTED],
+    pub require_explicit_policy: Skip,
+    pub inhibit_policy_mapping: Skip,
+    pub inhibit_any_policy: Skip,
+}
+
+// A path: the start inputs, and its certificates side by side, from the one that the trust anchor issued.
+pub struct Path {
+    pub mapping_inhibit: bool,
+    pub explicit_policy: bool,
+    pub any_policy_inhibit: bool,
+    pub user_count: usize,
+    pub user_policies: [u16; LISTED],
+    pub certificate_count: usize,
+    pub certificates: [Certificate; CERTIFICATES],
+}
+
+// What the judge says beside the two tables: a number of document 01's table, the certificate named, and the depth counts.
+pub struct Answer {
+    pub number: u8,
+    pub place: u8,
+    pub counts: [u16; DEPTHS],
+}
+
+// What the reader answers: a number, and the path, all cleared on refusal.
+pub struct Reading {
+    pub number: u8,
+    pub path: Path,
+}
+
+// What the writer answers: a number, and the sheet's length, 0 on refusal.
+pub struct Writing {
+    pub number: u8,
+    pub length: usize,
+}
+
+// The constants that other crates' contracts speak of are those of specs/Limits.
+pub fn table_places() -> usize
+    ensures { λ r. ⌜ r ≡ Limits.table ⌝ }
+{
+    TABLE
+}
+
+pub fn longest_sheet() -> usize
+    ensures { λ r. ⌜ r ≡ Limits.sheet-bytes ⌝ }
+{
+    SHEET_BYTES
+}
