@@ -11,4 +11,3 @@ pub mod Layout
 pub mod Faults
 pub mod Sheet
 pub mod Judge
-pub mod Known
