@@ -16,10 +16,10 @@ pub record Row : Type 0 where
   pub path : Path
   pub answer : Answer
 
-_>_ : ℕ → ℕ → Mapping
-a > b = record { issuer = a; subject = b }
+_to_ : ℕ → ℕ → Mapping
+a to b = record { issuer = a; subject = b }
 
-infix 70 _>_
+infix 70 _to_
 -- self-issued, policies, mappings, requireExplicitPolicy, inhibitPolicyMapping, inhibitAnyPolicy
 certificate : Bool → List ℕ → List Mapping → Skip → Skip → Skip → Certificate
 certificate s ps ms re im ia = record { self-issued = s; policies = ps; mappings = ms; require-explicit = re; inhibit-mapping = im; inhibit-any = ia }
@@ -39,19 +39,19 @@ row mi ep ai us cs v i ns as′ us′ =
 
 -- the four pairs of case B
 all-four : List Mapping
-unfolding _>_
-all-four = 21 > 21 ∷ 21 > 22 ∷ 22 > 21 ∷ 22 > 22 ∷ []
+unfolding _to_
+all-four = 21 to 21 ∷ 21 to 22 ∷ 22 to 21 ∷ 22 to 22 ∷ []
 
 -- the certificates of cases H and I
 mapped-any : List Certificate
-unfolding plain _>_
-mapped-any = plain (1 ∷ []) (50 > 51 ∷ []) ∷ plain (51 ∷ []) [] ∷ []
+unfolding plain _to_
+mapped-any = plain (1 ∷ []) (50 to 51 ∷ []) ∷ plain (51 ∷ []) [] ∷ []
 
 unfoldable pub rows : List Row
-unfolding row plain certificate all-four mapped-any _>_
+unfolding row plain certificate all-four mapped-any _to_
 rows =
     -- A
-    row false false false (1 ∷ []) (plain (11 ∷ 12 ∷ 15 ∷ []) (11 > 13 ∷ 11 > 14 ∷ []) ∷ plain (12 ∷ 13 ∷ 16 ∷ []) [] ∷ []) 0 0 (1 ∷ 2 ∷ 2 ∷ []) (11 ∷ 12 ∷ []) (11 ∷ 12 ∷ [])
+    row false false false (1 ∷ []) (plain (11 ∷ 12 ∷ 15 ∷ []) (11 to 13 ∷ 11 to 14 ∷ []) ∷ plain (12 ∷ 13 ∷ 16 ∷ []) [] ∷ []) 0 0 (1 ∷ 2 ∷ 2 ∷ []) (11 ∷ 12 ∷ []) (11 ∷ 12 ∷ [])
     -- B
     ∷ row false false false (1 ∷ []) (plain (21 ∷ 22 ∷ []) all-four ∷ plain (21 ∷ 22 ∷ []) all-four ∷ plain (21 ∷ 22 ∷ []) [] ∷ []) 0 0 (1 ∷ 2 ∷ 2 ∷ 2 ∷ []) (21 ∷ 22 ∷ []) (21 ∷ 22 ∷ [])
     -- C
@@ -75,18 +75,18 @@ rows =
     -- I, user 51
     ∷ row true true false (51 ∷ []) mapped-any 0 0 (1 ∷ 1 ∷ 1 ∷ []) (51 ∷ []) (51 ∷ [])
     -- J
-    ∷ row true true false (1 ∷ []) (plain (60 ∷ []) (60 > 61 ∷ []) ∷ plain (60 ∷ 61 ∷ []) [] ∷ []) 8 2 [] [] []
+    ∷ row true true false (1 ∷ []) (plain (60 ∷ []) (60 to 61 ∷ []) ∷ plain (60 ∷ 61 ∷ []) [] ∷ []) 8 2 [] [] []
     -- K
-    ∷ row false false false (1 ∷ []) (plain (70 ∷ []) (1 > 71 ∷ []) ∷ []) 9 1 [] [] []
+    ∷ row false false false (1 ∷ []) (plain (70 ∷ []) (1 to 71 ∷ []) ∷ []) 9 1 [] [] []
     -- M
     ∷ row false false false (1 ∷ []) (certificate false (80 ∷ []) [] (Certificates 1) Absent Absent ∷ plain [] [] ∷ []) 10 2 (0 ∷ 0 ∷ 0 ∷ []) [] []
     -- L, requireExplicitPolicy 0 and 1
     ∷ row false false false (1 ∷ []) (certificate false [] [] (Certificates 0) Absent Absent ∷ []) 10 1 (0 ∷ 0 ∷ []) [] []
     ∷ row false false false (1 ∷ []) (certificate false [] [] (Certificates 1) Absent Absent ∷ []) 0 0 (0 ∷ 0 ∷ []) [] []
     -- a listed policy that a node expects is not hung under anyPolicy: 12 stands under 11
-    ∷ row false false false (1 ∷ []) (plain (11 ∷ 1 ∷ []) (11 > 12 ∷ []) ∷ plain (12 ∷ []) [] ∷ []) 0 0 (1 ∷ 1 ∷ 1 ∷ []) (11 ∷ []) (11 ∷ [])
+    ∷ row false false false (1 ∷ []) (plain (11 ∷ 1 ∷ []) (11 to 12 ∷ []) ∷ plain (12 ∷ []) [] ∷ []) 0 0 (1 ∷ 1 ∷ 1 ∷ []) (11 ∷ []) (11 ∷ [])
     -- the counters fall after the mappings: policy_mapping is 1 at certificate 2
-    ∷ row false false false (1 ∷ []) (certificate false (11 ∷ []) [] Absent (Certificates 1) Absent ∷ plain (11 ∷ []) (11 > 12 ∷ []) ∷ plain (12 ∷ []) [] ∷ []) 0 0 (1 ∷ 1 ∷ 1 ∷ 1 ∷ []) (11 ∷ []) (11 ∷ [])
+    ∷ row false false false (1 ∷ []) (certificate false (11 ∷ []) [] Absent (Certificates 1) Absent ∷ plain (11 ∷ []) (11 to 12 ∷ []) ∷ plain (12 ∷ []) [] ∷ []) 0 0 (1 ∷ 1 ∷ 1 ∷ 1 ∷ []) (11 ∷ []) (11 ∷ [])
     -- the counters do not fall at a self-issued certificate before the last: explicit_policy is 1 at certificate 3
     ∷ row false false false (1 ∷ []) (certificate false (80 ∷ []) [] (Certificates 1) Absent Absent ∷ certificate true [] [] Absent Absent Absent ∷ plain [] [] ∷ []) 10 3 (0 ∷ 0 ∷ 0 ∷ 0 ∷ []) [] []
     -- at the end explicit_policy falls though certificate n is self-issued
@@ -96,11 +96,15 @@ rows =
     -- inhibitAnyPolicy 0 at certificate 1 stops certificate 2's anyPolicy and not its own
     ∷ row false false false (1 ∷ []) (certificate false (1 ∷ 12 ∷ []) [] Absent Absent (Certificates 0) ∷ plain (12 ∷ 1 ∷ []) [] ∷ []) 0 0 (1 ∷ 1 ∷ 1 ∷ []) (12 ∷ []) (12 ∷ [])
     -- the anyPolicy rule gives each node what it expects: 13 and 14 under 11, 14 under 12 too, though another node has the child 14
-    ∷ row false false false (11 ∷ 40 ∷ []) (plain (11 ∷ 12 ∷ 1 ∷ []) (11 > 13 ∷ 11 > 14 ∷ 12 > 14 ∷ []) ∷ plain (14 ∷ 1 ∷ []) [] ∷ []) 0 0 (1 ∷ 3 ∷ 3 ∷ []) (1 ∷ 11 ∷ 12 ∷ []) (11 ∷ 40 ∷ [])
+    ∷ row false false false (11 ∷ 40 ∷ []) (plain (11 ∷ 12 ∷ 1 ∷ []) (11 to 13 ∷ 11 to 14 ∷ 12 to 14 ∷ []) ∷ plain (14 ∷ 1 ∷ []) [] ∷ []) 0 0 (1 ∷ 3 ∷ 3 ∷ []) (1 ∷ 11 ∷ 12 ∷ []) (11 ∷ 40 ∷ [])
     -- a mapping's issuer that no node has is added under anyPolicy, beside a node that expects it
-    ∷ row false false false (1 ∷ []) (plain (11 ∷ 1 ∷ []) (11 > 12 ∷ []) ∷ plain (1 ∷ 13 ∷ []) (12 > 14 ∷ 15 > 16 ∷ []) ∷ plain (14 ∷ 16 ∷ 17 ∷ []) [] ∷ []) 0 0 (1 ∷ 2 ∷ 3 ∷ 3 ∷ []) (11 ∷ 15 ∷ 17 ∷ []) (11 ∷ 15 ∷ 17 ∷ [])
+    ∷ row false false false (1 ∷ []) (plain (11 ∷ 1 ∷ []) (11 to 12 ∷ []) ∷ plain (1 ∷ 13 ∷ []) (12 to 14 ∷ 15 to 16 ∷ []) ∷ plain (14 ∷ 16 ∷ 17 ∷ []) [] ∷ []) 0 0 (1 ∷ 2 ∷ 3 ∷ 3 ∷ []) (11 ∷ 15 ∷ 17 ∷ []) (11 ∷ 15 ∷ 17 ∷ [])
     -- a branch that dies is pruned to the root's child, and a mapping at the last certificate is ignored
-    ∷ row false false false (21 ∷ 1 ∷ []) (plain (21 ∷ 22 ∷ []) [] ∷ plain (21 ∷ 22 ∷ []) [] ∷ plain (22 ∷ []) (22 > 23 ∷ []) ∷ []) 0 0 (1 ∷ 1 ∷ 1 ∷ 1 ∷ []) (22 ∷ []) (22 ∷ [])
+    ∷ row false false false (21 ∷ 1 ∷ []) (plain (21 ∷ 22 ∷ []) [] ∷ plain (21 ∷ 22 ∷ []) [] ∷ plain (22 ∷ []) (22 to 23 ∷ []) ∷ []) 0 0 (1 ∷ 1 ∷ 1 ∷ 1 ∷ []) (22 ∷ []) (22 ∷ [])
+    -- the anyPolicy rule gives 14 to both nodes that expect it
+    ∷ row false false false (1 ∷ []) (plain (11 ∷ 12 ∷ []) (11 to 14 ∷ 12 to 14 ∷ []) ∷ plain (1 ∷ []) [] ∷ []) 0 0 (1 ∷ 2 ∷ 1 ∷ []) (11 ∷ 12 ∷ []) (11 ∷ 12 ∷ [])
+    -- an empty user list is a set with nothing in it, though anyPolicy stands at depth n
+    ∷ row false true false [] (plain (1 ∷ []) [] ∷ []) 10 1 (1 ∷ 1 ∷ []) (1 ∷ []) []
     -- an empty user list is a set with nothing in it
     ∷ row false true false [] (plain (22 ∷ []) [] ∷ []) 10 1 (1 ∷ 1 ∷ []) (22 ∷ []) []
     ∷ []
