@@ -154,7 +154,7 @@ inner q L (M ∷ ms) c =
     ∙ ap₂ _||_ (under-level q M (c .0 .fit)) (deeper q (under any) M ms (c .1) (λ n i e. ⊎-elim (λ p. ap (λ ps. any ∈ ps) p ∙ In-mem here) (λ p. absurd (clash (eq-eqb (n .policy) any e) (p .1))) (c .0 .fit n i)) ∙ inner q M ms (c .1))
     ∙ sym (mem-append q (Graph.under-any M) (each Graph.under-any ms))
 
-under-root : (q : ℕ) (L : Level) → ((n : Node) → In n L → n .policy ≡ any) → q ∈ Graph.under-any L ≡ false
+pub under-root : (q : ℕ) (L : Level) → ((n : Node) → In n L → n .policy ≡ any) → q ∈ Graph.under-any L ≡ false
 unfolding Graph.under-any
 under-root q L h = is-false (λ e.
     let r = In-policies (λ x. not (eqb (x .policy) any) && only-any (x .parents)) L q e in

@@ -45,7 +45,7 @@ In-hang F m ps i = let r = In-each (hang F) ps i in let s = go (r .0) (F (r .0))
     go P [] i = elim i [ ]
     go P (q ∷ qs) i = ⊎-elim (λ e. (e, refl)) (λ j. elim j [ ]) (In-cons i)
 
-policies-hang : (F : ℕ → List ℕ) (ps : List ℕ) → policies (each (hang F) ps) ≡ select (λ P. not (empty (F P))) ps
+pub policies-hang : (F : ℕ → List ℕ) (ps : List ℕ) → policies (each (hang F) ps) ≡ select (λ P. not (empty (F P))) ps
 unfolding policies each select node-under pick empty
 policies-hang F [] = refl
 policies-hang F (P ∷ ps) = go (F P) (policies-hang F ps)
@@ -54,7 +54,7 @@ policies-hang F (P ∷ ps) = go (F P) (policies-hang F ps)
     go [] e = e
     go (q ∷ qs) e = ap (λ l. P ∷ l) e
 
-policies-append : (L M : Level) → policies (L ++ M) ≡ policies L ++ policies M
+pub policies-append : (L M : Level) → policies (L ++ M) ≡ policies L ++ policies M
 unfolding policies
 policies-append [] M = refl
 policies-append (n ∷ L) M = ap (λ l. n .policy ∷ l) (policies-append L M)
@@ -76,7 +76,7 @@ own g A n u i =
     (λ e. let r = In-map (λ y. y .policy) (select g A) (mem-In _ _ e) in let s = In-select g A (r .1) in subst (λ y. g y ≡ true) (unique-node A u (s .0) i (r .2)) (s .1))
     (λ e. In-mem (map-In (λ y. y .policy) (select-In g i e)))
 
-empty-policies : (g : Node → Bool) (A : Level) → empty (policies (select g A)) ≡ not (some-of g A)
+pub empty-policies : (g : Node → Bool) (A : Level) → empty (policies (select g A)) ≡ not (some-of g A)
 unfolding empty policies select some-of pick
 empty-policies g [] = refl
 empty-policies g (n ∷ A) = go (g n) (empty-policies g A)
@@ -85,7 +85,7 @@ empty-policies g (n ∷ A) = go (g n) (empty-policies g A)
     go true e = refl
     go false e = e
 
-parents-own : (P : ℕ) (A : Level) (n : Node) → Unique (policies A) → In n A → n .policy ∈ parents-of P A ≡ pick (some-of (λ m. P ∈ m .expects) A) (P ∈ n .expects) (eqb (n .policy) any)
+pub parents-own : (P : ℕ) (A : Level) (n : Node) → Unique (policies A) → In n A → n .policy ∈ parents-of P A ≡ pick (some-of (λ m. P ∈ m .expects) A) (P ∈ n .expects) (eqb (n .policy) any)
 unfolding parents-of expecting any-node
 parents-own P A n u i =
     pick-ap (λ l. n .policy ∈ l) (empty (expecting P A)) _ _
@@ -241,11 +241,11 @@ names-any A u P e = record {
       sym (r .3) ∙ eqb-true _ _ (r .2)));
 }
 
-parents-none : (P : ℕ) (A : Level) → empty (expecting P A) ≡ true → parents-of P A ≡ any-node A
+pub parents-none : (P : ℕ) (A : Level) → empty (expecting P A) ≡ true → parents-of P A ≡ any-node A
 unfolding parents-of pick
 parents-none P A e = rw e
 
-parents-some : (P : ℕ) (A : Level) → empty (expecting P A) ≡ false → parents-of P A ≡ expecting P A
+pub parents-some : (P : ℕ) (A : Level) → empty (expecting P A) ≡ false → parents-of P A ≡ expecting P A
 unfolding parents-of pick
 parents-some P A e = rw e
 
@@ -351,13 +351,13 @@ unfolding empty some-of
 step-none L [] s e = refl
 step-none L (m ∷ M) s e = absurd (clash (s .linked m here) (ap (some-of (λ n. under (n .policy) m)) (empty-out L e)))
 
-gone-deepest : (ls : List Level) (B : Level) → Chain (ls ++ (B ∷ [])) → empty (Graph.first ls B) ≡ true → B ≡ []
+pub gone-deepest : (ls : List Level) (B : Level) → Chain (ls ++ (B ∷ [])) → empty (Graph.first ls B) ≡ true → B ≡ []
 unfolding Graph.first
 gone-deepest [] B c e = empty-out B e
 gone-deepest (L ∷ []) B c e = empty-out B (step-none L B (c .0) e)
 gone-deepest (L ∷ M ∷ ls) B c e = gone-deepest (M ∷ ls) B (c .1) (step-none L M (c .0) e)
 
-pruned-none : (ls : List Level) → pruned ls [] ≡ map (λ L. []) ls
+pub pruned-none : (ls : List Level) → pruned ls [] ≡ map (λ L. []) ls
 unfolding pruned
 pruned-none [] = refl
 pruned-none (L ∷ ls) =

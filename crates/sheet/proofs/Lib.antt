@@ -1,0 +1,10 @@
+pub mod Faults
+pub mod Writable
+pub mod WellFormed
+pub mod Bits
+pub mod Fields
+pub mod Readers
+pub mod Whole
+pub mod Sheet
+pub mod Longest
+pub mod Decoded

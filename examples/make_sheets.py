@@ -1,0 +1,122 @@
+#!/usr/bin/env python3
+"""Writes the sheets of document 01's known paths and of the reader's and writer's test program.
+
+    examples/make_sheets.py     writes examples/*.sheet and crates/sheet_check/data/*
+
+The sheets are stored in the repository; this says what is in them. It packs bits by itself and uses no other code of the project.
+"""
+import pathlib
+
+ROOT = pathlib.Path(__file__).resolve().parent.parent
+
+
+def certificate(policies=(), pairs=(), self_issued=False, skips=(None, None, None)):
+    """The fields of a certificate, as (width, value) pairs."""
+    fields = [(1, int(self_issued)), (1, int(bool(policies)))]
+    if policies:
+        fields += [(5, len(policies))] + [(16, p) for p in policies]
+    fields += [(1, int(bool(pairs)))]
+    if pairs:
+        fields += [(5, len(pairs))] + [(16, p) for pair in pairs for p in pair]
+    for skip in skips:
+        fields += [(1, 0)] if skip is None else [(1, 1), (8, skip)]
+    return fields
+
+
+def sheet(certificates, users=(1,), mapping=False, explicit=False, anypolicy=False, n=None):
+    """The fields of a sheet."""
+    fields = [(4, 1), (4, len(certificates) if n is None else n), (1, int(mapping)), (1, int(explicit)), (1, int(anypolicy))]
+    fields += [(5, len(users))] + [(16, u) for u in users]
+    return fields + [field for c in certificates for field in c]
+
+
+def packed(fields):
+    """The fields as bytes, with zero bits to the end of the last."""
+    bits = "".join(format(value, f"0{width}b") for width, value in fields)
+    bits += "0" * (-len(bits) % 8)
+    return bytes(int(bits[k:k + 8], 2) for k in range(0, len(bits), 8))
+
+
+FOUR = [(21, 21), (21, 22), (22, 21), (22, 22)]
+H = [certificate([1], [(50, 51)]), certificate([51])]
+
+KNOWN = {
+    "A": sheet([certificate([11, 12, 15], [(11, 13), (11, 14)]), certificate([12, 13, 16])]),
+    "B": sheet([certificate([21, 22], FOUR), certificate([21, 22], FOUR), certificate([21, 22])]),
+    "B10": sheet([certificate([21, 22], FOUR)] * 9 + [certificate([21, 22])]),
+    "C": sheet([certificate()]),
+    "D": sheet([certificate()], explicit=True),
+    "E": sheet([certificate([1])], users=(30, 31)),
+    "F": sheet([certificate([1])], users=(30, 31), anypolicy=True),
+    "G-self-issued": sheet([certificate([1], self_issued=True), certificate([40])], anypolicy=True),
+    "G": sheet([certificate([1]), certificate([40])], anypolicy=True),
+    "H-50": sheet(H, users=(50,), explicit=True),
+    "H-51": sheet(H, users=(51,), explicit=True),
+    "I-50": sheet(H, users=(50,), explicit=True, mapping=True),
+    "I-51": sheet(H, users=(51,), explicit=True, mapping=True),
+    "J": sheet([certificate([60], [(60, 61)]), certificate([60, 61])], explicit=True, mapping=True),
+    "K": sheet([certificate([70], [(1, 71)])]),
+    "L-0": sheet([certificate(skips=(0, None, None))]),
+    "L-1": sheet([certificate(skips=(1, None, None))]),
+    "M": sheet([certificate([80], skips=(1, None, None)), certificate()]),
+}
+
+
+def full(last_policy=None, last_subject=None):
+    """A sheet of the greatest length: ten certificates with sixteen policies, sixteen pairs and three skip values, and sixteen users."""
+    certificates = []
+    for i in range(10):
+        policies = [100 + j for j in range(16)]
+        pairs = [[100 + j, 100 + (j + i) % 16] for j in range(16)]
+        if i == 9 and last_policy is not None:
+            policies[15] = last_policy
+        if i == 9 and last_subject is not None:
+            pairs[15][1] = last_subject
+        certificates.append(certificate(policies, pairs, skips=(255, 255, 255)))
+    return sheet(certificates, users=tuple(range(100, 116)))
+
+
+def test_sheets():
+    """The sheets of the reader's and writer's test program, in its order."""
+    e, longest = packed(KNOWN["E"]), packed(full())
+    assert e == bytes.fromhex("1102001E001F42000200") and len(longest) == 1044
+    tail = [(1, 0), (1, 0), (1, 1), (5, 17)]
+    return {
+        "case_e": e,
+        "longest": longest,
+        "every_known_skip": packed(sheet([certificate([5], [(5, 6)], True, (0, None, 255)), certificate([], [(7, 8)], False, (None, 9, None))], users=())),
+        "ends_empty": b"",
+        "ends_in_last_field": longest[:-1],
+        "edition_2": b"\x21",
+        "edition_0_and_more": b"\x01" + e[1:],
+        "n_0": b"\x10",
+        "n_11": b"\x1b" + e[1:],
+        "user_count_17": packed([(4, 1), (4, 1), (3, 0), (5, 17)]),
+        "policy_count_0": packed(sheet([[(1, 0), (1, 1), (5, 0)]])),
+        "policy_count_17": packed(sheet([[(1, 0), (1, 1), (5, 17)]])),
+        "last_mapping_count_17": packed(sheet([certificate([5])] * 9 + [tail])),
+        "first_user_0": packed(sheet([certificate()], users=(0,))),
+        "last_subject_0": packed(full(last_subject=0)),
+        "second_policy_repeats": packed(sheet([certificate([5, 5, 0])])),
+        "last_policy_repeats": packed(full(last_policy=100)),
+        "zero_before_repeat": packed(sheet([certificate([5, 0, 5])])),
+        "fill_bit": e[:-1] + b"\x01",
+        "fill_bit_first": e[:-1] + b"\x10",
+        "byte_too_many": e + b"\x00",
+        "byte_too_many_longest": longest + b"\x00",
+    }
+
+
+def main():
+    for name, fields in KNOWN.items():
+        (ROOT / "examples" / f"{name}.sheet").write_bytes(packed(fields))
+    data = ROOT / "crates" / "sheet_check" / "data"
+    data.mkdir(parents=True, exist_ok=True)
+    sheets = test_sheets()
+    for name, content in sheets.items():
+        (data / name).write_bytes(content)
+    (data.parent / "args").write_text("".join(f"{name}\n" for name in sheets))
+
+
+if __name__ == "__main__":
+    main()
