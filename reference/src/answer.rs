@@ -1,0 +1,133 @@
+//! The judge's answer, and how it stands in the lent tables.
+
+use crate::path::{Path, MAX_CERTIFICATES};
+use crate::{graph, sheet};
+
+/// "two tables of 16-bit numbers, authority and user, at least 304 places
+/// each"
+pub const PLACES: usize = 304;
+
+/// "The answer also has eleven depth counts (0 to 10)."
+pub const DEPTHS: usize = MAX_CERTIFICATES + 1;
+
+/// "8: after certificate i's policies, explicit_policy is 0 and there is no
+/// graph"
+pub const NO_GRAPH: u8 = 8;
+/// "9: a mapping of certificate i names anyPolicy"
+pub const MAPS_ANY: u8 = 9;
+/// "10: at the end, explicit_policy is 0 and the user set is empty"
+pub const NO_USER_POLICY: u8 = 10;
+
+/// The number and place, the depth counts, and both sets, ascending.
+#[derive(Clone, Debug, Default, PartialEq, Eq)]
+pub struct Answer {
+    pub number: u8,
+    pub place: usize,
+    pub counts: [u16; DEPTHS],
+    pub authority: Vec<u16>,
+    pub user: Vec<u16>,
+}
+
+impl Answer {
+    /// A refusal, place 0; or verdict 8 or 9 at its certificate: all counts
+    /// zero and both sets empty.
+    pub fn bare(number: u8, place: usize) -> Answer {
+        Answer { number, place, ..Answer::default() }
+    }
+
+    /// "1 to 7 are refusals, the others verdicts."
+    pub fn is_refusal(&self) -> bool {
+        (1..=7).contains(&self.number)
+    }
+
+    /// "After a refusal both are unchanged"; otherwise each table takes its
+    /// set.
+    pub fn fill(&self, authority: &mut [u16], user: &mut [u16]) {
+        if !self.is_refusal() {
+            fill_table(&self.authority, authority);
+            fill_table(&self.user, user);
+        }
+    }
+}
+
+/// "each holds its set first, ascending, no repeats, and the places after the
+/// last policy are zeroed to the table's end"
+fn fill_table(set: &[u16], table: &mut [u16]) {
+    let (first, rest) = table.split_at_mut(set.len());
+    first.copy_from_slice(set);
+    rest.fill(0);
+}
+
+/// Judges a sheet: "7 first; then the sheet field by field [...]; then
+/// certificate by certificate".
+pub fn judge_sheet(sheet: &[u8], authority: &mut [u16], user: &mut [u16]) -> Answer {
+    if authority.len() < PLACES || user.len() < PLACES {
+        return Answer::bare(sheet::TOO_SHORT, 0);
+    }
+    match sheet::read(sheet) {
+        Err(number) => Answer::bare(number, 0),
+        Ok(path) => {
+            let answer = graph::judge(&path);
+            answer.fill(authority, user);
+            answer
+        }
+    }
+}
+
+/// Judges "a path handed over decoded".
+pub fn judge_path(path: &Path, authority: &mut [u16], user: &mut [u16]) -> Answer {
+    if authority.len() < PLACES || user.len() < PLACES {
+        return Answer::bare(sheet::TOO_SHORT, 0);
+    }
+    match sheet::refusal(path) {
+        Err(number) => Answer::bare(number, 0),
+        Ok(()) => {
+            let answer = graph::judge(path);
+            answer.fill(authority, user);
+            answer
+        }
+    }
+}
+
+#[cfg(test)]
+mod tests {
+    use super::*;
+    use crate::known::{self, E_SHEET};
+
+    #[test]
+    fn tables_of_303_and_304_places() {
+        let (mut authority, mut user) = ([9; PLACES], [9; PLACES]);
+        let answer = judge_sheet(&E_SHEET, &mut authority[1..], &mut user);
+        assert_eq!(answer, Answer::bare(7, 0));
+        let answer = judge_sheet(&[], &mut authority, &mut user[1..]);
+        assert_eq!(answer, Answer::bare(7, 0));
+        assert_eq!((authority, user), ([9; PLACES], [9; PLACES]));
+        let answer = judge_sheet(&E_SHEET, &mut authority, &mut user);
+        assert_eq!((answer.number, answer.place), (0, 0));
+        assert_eq!((authority[0], &user[..2]), (1, &[30, 31][..]));
+        assert!(authority[1..].iter().chain(&user[2..]).all(|&place| place == 0));
+    }
+
+    #[test]
+    fn tables_after_each_row() {
+        for row in known::rows() {
+            let (mut authority, mut user) = ([9; 400], [9; PLACES]);
+            let answer = judge_path(&row.path, &mut authority, &mut user);
+            assert_eq!(answer, row.answer, "{}", row.name);
+            let (set, rest) = authority.split_at(answer.authority.len());
+            assert_eq!(set, answer.authority);
+            assert!(rest.iter().all(|&place| place == 0));
+            let (set, rest) = user.split_at(answer.user.len());
+            assert_eq!(set, answer.user);
+            assert!(rest.iter().all(|&place| place == 0));
+        }
+    }
+
+    #[test]
+    fn a_refusal_leaves_the_tables() {
+        let (mut authority, mut user) = ([9; PLACES], [9; PLACES]);
+        assert_eq!(judge_sheet(&[0x21], &mut authority, &mut user), Answer::bare(2, 0));
+        assert_eq!(judge_path(&Path::default(), &mut authority, &mut user), Answer::bare(3, 0));
+        assert_eq!((authority, user), ([9; PLACES], [9; PLACES]));
+    }
+}

@@ -1,0 +1,151 @@
+//! The graph judge against the tree judge, and the codec against itself, on
+//! random paths and sheets, without the proved library.
+//!
+//! Arguments: the seed (1), the number of random sheets (200000).
+
+use std::env;
+use std::process::ExitCode;
+
+use reference::answer::{judge_path, judge_sheet, Answer, PLACES};
+use reference::path::Path;
+use reference::random::{self, Random, FULL_KINDS};
+use reference::{known, sheet, tree};
+
+/// The least number of random sheets that each answer must get.
+const OFTEN: usize = 500;
+
+/// What was checked, and what the checks saw.
+#[derive(Default)]
+struct Tally {
+    passed: usize,
+    failed: usize,
+    answers: [usize; 11],
+    trees: usize,
+    over_cap: usize,
+    most_nodes_at_a_depth: u16,
+}
+
+impl Tally {
+    /// Counts one check; a failure is printed with its sheet in hex.
+    fn check(&mut self, holds: bool, what: &str, sheet: &[u8]) {
+        if holds {
+            self.passed += 1;
+            return;
+        }
+        self.failed += 1;
+        if self.failed <= 20 {
+            let hex: String = sheet.iter().map(|byte| format!("{byte:02X}")).collect();
+            println!("FAILED {what}: {hex}");
+        }
+    }
+}
+
+/// Demand 3: "At depth i, one or more, the count is at most the number of
+/// policies listed in certificates 1 to i plus the number of mapping pairs
+/// listed there."
+fn counts_within_bound(path: &Path, answer: &Answer) -> bool {
+    let mut bound = 0;
+    path.certificates.iter().enumerate().all(|(place, certificate)| {
+        bound += certificate.policies.len() + certificate.mappings.len();
+        usize::from(answer.counts[place + 1]) <= bound
+    })
+}
+
+/// Demand 3: the tree gives the graph's whole answer.
+fn check_path(tally: &mut Tally, path: &Path, sheet: &[u8], answer: &Answer) {
+    match tree::judge(path, tree::CAP) {
+        Some(by_tree) => {
+            tally.trees += 1;
+            tally.check(by_tree == *answer, "graph and tree differ", sheet);
+        }
+        None => tally.over_cap += 1,
+    }
+    let bound = counts_within_bound(path, answer);
+    tally.check(bound, "a count is above its bound", sheet);
+    let widest = answer.counts.iter().copied().max().unwrap_or(0);
+    tally.most_nodes_at_a_depth = tally.most_nodes_at_a_depth.max(widest);
+}
+
+/// Judges one sheet, and where it is accepted compares graph and tree, and
+/// the written sheet with the one that was read.
+fn check_sheet(tally: &mut Tally, random: &mut Random, sheet: &[u8]) {
+    let places = if random.chance(5) { random.pick(&[0, PLACES - 1]) } else { PLACES };
+    let (mut authority, mut user) = (vec![9; PLACES], vec![9; places]);
+    let answer = judge_sheet(sheet, &mut authority, &mut user);
+    tally.answers[usize::from(answer.number)] += 1;
+    if answer.is_refusal() {
+        let unchanged = authority.iter().chain(&user).all(|&place| place == 9);
+        tally.check(unchanged, "a refusal changed a table", sheet);
+    }
+    match sheet::read(sheet) {
+        Ok(path) if answer.number != sheet::TOO_SHORT => {
+            tally.check(sheet::write(&path) == sheet, "reading and writing", sheet);
+            let again = judge_path(&path, &mut authority, &mut user);
+            tally.check(again == answer, "sheet and path differ", sheet);
+            check_path(tally, &path, sheet, &answer);
+        }
+        Ok(_) => {}
+        Err(number) => {
+            let expected = if places < PLACES { sheet::TOO_SHORT } else { number };
+            tally.check(answer.number == expected, "the reader's refusal", sheet);
+        }
+    }
+}
+
+/// Writing a path and reading the sheet: the same path, or the refusal that
+/// the decoded path gets.
+fn check_round_trip(tally: &mut Tally, path: &Path) {
+    let sheet = sheet::write(path);
+    let expected = sheet::refusal(path).map(|()| path.clone());
+    tally.check(sheet::read(&sheet) == expected, "writing and reading", &sheet);
+}
+
+fn main() -> ExitCode {
+    let mut arguments = env::args().skip(1).map(|word| word.parse::<u64>().expect("a number"));
+    let seed = arguments.next().unwrap_or(1);
+    let sheets = arguments.next().unwrap_or(200_000);
+    let mut random = Random::new(seed);
+    let mut tally = Tally::default();
+
+    for row in known::rows() {
+        let sheet = sheet::write(&row.path);
+        check_round_trip(&mut tally, &row.path);
+        check_path(&mut tally, &row.path, &sheet, &row.answer);
+        let (mut authority, mut user) = ([9; PLACES], [9; PLACES]);
+        let answer = judge_sheet(&sheet, &mut authority, &mut user);
+        tally.check(answer == row.answer, row.name, &sheet);
+    }
+    for n in 2..=10 {
+        let mut paths = vec![random::doubling(n)];
+        paths.extend(FULL_KINDS.map(|kind| random::full(kind, n, &mut random)));
+        for path in paths {
+            check_round_trip(&mut tally, &path);
+            check_sheet(&mut tally, &mut random, &sheet::write(&path));
+        }
+    }
+    tally.answers = [0; 11];
+    for _ in 0..sheets {
+        let sheet = random::sheet(&mut random);
+        check_sheet(&mut tally, &mut random, &sheet);
+    }
+    for _ in 0..sheets / 4 {
+        let path = random::path(&mut random);
+        check_round_trip(&mut tally, &path);
+        let path = random::faulty_path(&mut random);
+        check_round_trip(&mut tally, &path);
+    }
+
+    println!("seed {seed}, {sheets} random sheets");
+    for (number, times) in tally.answers.into_iter().enumerate() {
+        println!("answer {number}: {times}");
+        tally.check(times >= OFTEN, &format!("answer {number} is too rare"), &[]);
+    }
+    println!("trees compared: {}, over the cap: {}", tally.trees, tally.over_cap);
+    println!("widest depth: {}", tally.most_nodes_at_a_depth);
+    println!("{} passed, {} failed", tally.passed, tally.failed);
+    if tally.failed == 0 {
+        ExitCode::SUCCESS
+    } else {
+        ExitCode::FAILURE
+    }
+}

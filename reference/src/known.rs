@@ -1,0 +1,99 @@
+//! The paths with known outcomes of document 01.
+
+use crate::answer::{Answer, DEPTHS};
+use crate::path::{Certificate, Path, ANY};
+
+/// "E's sheet, whole, hex: 11 02 00 1E 00 1F 42 00 02 00."
+pub const E_SHEET: [u8; 10] = [0x11, 0x02, 0x00, 0x1E, 0x00, 0x1F, 0x42, 0x00, 0x02, 0x00];
+
+/// A row's name, its path and the answer written beside it.
+pub struct Known {
+    pub name: &'static str,
+    pub path: Path,
+    pub answer: Answer,
+}
+
+/// A certificate with policies and pairs and nothing else.
+fn certificate(policies: &[u16], mappings: &[(u16, u16)]) -> Certificate {
+    Certificate {
+        policies: policies.to_vec(),
+        mappings: mappings.to_vec(),
+        ..Certificate::default()
+    }
+}
+
+/// "user any-policy and flags clear unless said"
+fn path(certificates: Vec<Certificate>) -> Path {
+    Path { user: vec![ANY], certificates, ..Path::default() }
+}
+
+/// An answer with the counts that the row lists, zeros after them.
+fn answer(number: u8, place: usize, counts: &[u16], authority: &[u16], user: &[u16]) -> Answer {
+    let mut all = [0; DEPTHS];
+    all[..counts.len()].copy_from_slice(counts);
+    Answer { number, place, counts: all, authority: authority.to_vec(), user: user.to_vec() }
+}
+
+/// Rows A to M in order, each form of a row on its own.
+pub fn rows() -> Vec<Known> {
+    let square = [(21, 21), (21, 22), (22, 21), (22, 22)];
+    let a = path(vec![
+        certificate(&[11, 12, 15], &[(11, 13), (11, 14)]),
+        certificate(&[12, 13, 16], &[]),
+    ]);
+    let b = path(vec![
+        certificate(&[21, 22], &square),
+        certificate(&[21, 22], &square),
+        certificate(&[21, 22], &[]),
+    ]);
+    let c = path(vec![certificate(&[], &[])]);
+    let d = Path { explicit_policy: true, ..c.clone() };
+    let e = Path { user: vec![30, 31], ..path(vec![certificate(&[ANY], &[])]) };
+    let f = Path { any_policy_inhibit: true, ..e.clone() };
+    let g_other = Path {
+        any_policy_inhibit: true,
+        ..path(vec![certificate(&[ANY], &[]), certificate(&[40], &[])])
+    };
+    let mut g_self = g_other.clone();
+    g_self.certificates[0].self_issued = true;
+    let h_50 = Path {
+        explicit_policy: true,
+        user: vec![50],
+        ..path(vec![certificate(&[ANY], &[(50, 51)]), certificate(&[51], &[])])
+    };
+    let h_51 = Path { user: vec![51], ..h_50.clone() };
+    let i_50 = Path { mapping_inhibit: true, ..h_50.clone() };
+    let i_51 = Path { mapping_inhibit: true, ..h_51.clone() };
+    let j = Path {
+        explicit_policy: true,
+        mapping_inhibit: true,
+        ..path(vec![certificate(&[60], &[(60, 61)]), certificate(&[60, 61], &[])])
+    };
+    let k = path(vec![certificate(&[70], &[(ANY, 71)])]);
+    let require =
+        |skip| Certificate { require_explicit_policy: Some(skip), ..Certificate::default() };
+    let l_0 = path(vec![require(0)]);
+    let l_1 = path(vec![require(1)]);
+    let m = path(vec![Certificate { policies: vec![80], ..require(1) }, certificate(&[], &[])]);
+
+    let row = |name, path, answer| Known { name, path, answer };
+    vec![
+        row("A", a, answer(0, 0, &[1, 2, 2], &[11, 12], &[11, 12])),
+        row("B", b, answer(0, 0, &[1, 2, 2, 2], &[21, 22], &[21, 22])),
+        row("C", c, answer(0, 0, &[], &[], &[])),
+        row("D", d, answer(8, 1, &[], &[], &[])),
+        row("E", e, answer(0, 0, &[1, 1], &[ANY], &[30, 31])),
+        row("F", f, answer(0, 0, &[], &[], &[])),
+        row("G self-issued", g_self, answer(0, 0, &[1, 1, 1], &[40], &[40])),
+        row("G not self-issued", g_other, answer(0, 0, &[], &[], &[])),
+        row("H user 50", h_50, answer(0, 0, &[1, 1, 1], &[50], &[50])),
+        row("H user 51", h_51, answer(10, 2, &[1, 1, 1], &[50], &[])),
+        row("I user 50", i_50, answer(10, 2, &[1, 1, 1], &[51], &[])),
+        row("I user 51", i_51, answer(0, 0, &[1, 1, 1], &[51], &[51])),
+        row("J", j, answer(8, 2, &[], &[], &[])),
+        row("K", k, answer(9, 1, &[], &[], &[])),
+        row("L requireExplicitPolicy 0", l_0, answer(10, 1, &[], &[], &[])),
+        row("L requireExplicitPolicy 1", l_1, answer(0, 0, &[], &[], &[])),
+        row("M", m, answer(10, 2, &[], &[], &[])),
+    ]
+}

@@ -1,0 +1,14 @@
+//! An independent second judge of certificate policy paths, written from
+//! document 01 and RFC 9618 alone.
+
+pub mod answer;
+pub mod counters;
+pub mod graph;
+#[cfg(feature = "library")]
+pub mod judge;
+pub mod known;
+pub mod lent;
+pub mod path;
+pub mod random;
+pub mod sheet;
+pub mod tree;

@@ -1,0 +1,48 @@
+//! Policies, certificates and paths.
+
+/// "1 is anyPolicy."
+pub const ANY: u16 = 1;
+
+/// "A path has n certificates, 1 to 10."
+pub const MAX_CERTIFICATES: usize = 10;
+
+/// "0 to 16 policies; 0 to 16 mapping pairs", and a user list of 0 to 16.
+pub const MAX_LIST: usize = 16;
+
+/// "The start inputs are three flags (mapping inhibit, explicit policy,
+/// anyPolicy inhibit) and a user list"; then the certificates, "numbered from
+/// the one the trust anchor issued".
+#[derive(Clone, Debug, Default, PartialEq, Eq)]
+pub struct Path {
+    pub mapping_inhibit: bool,
+    pub explicit_policy: bool,
+    pub any_policy_inhibit: bool,
+    pub user: Vec<u16>,
+    pub certificates: Vec<Certificate>,
+}
+
+/// "A certificate has: a self-issued flag; policies; mapping pairs (issuer
+/// policy, subject policy); and three skip values", each absent or a number.
+#[derive(Clone, Debug, Default, PartialEq, Eq)]
+pub struct Certificate {
+    pub self_issued: bool,
+    pub policies: Vec<u16>,
+    pub mappings: Vec<(u16, u16)>,
+    pub require_explicit_policy: Option<u8>,
+    pub inhibit_policy_mapping: Option<u8>,
+    pub inhibit_any_policy: Option<u8>,
+}
+
+impl Path {
+    /// "A list that contains 1 means any-policy, whatever else it names."
+    pub fn user_is_any(&self) -> bool {
+        self.user.contains(&ANY)
+    }
+}
+
+impl Certificate {
+    /// Test 9: "a mapping of certificate i names anyPolicy".
+    pub fn mapping_names_any(&self) -> bool {
+        self.mappings.iter().any(|&(issuer, subject)| issuer == ANY || subject == ANY)
+    }
+}

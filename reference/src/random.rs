@@ -1,0 +1,415 @@
+//! A small fixed generator of numbers, and the random paths and sheets drawn
+//! from it.
+
+use crate::path::{Certificate, Path, ANY, MAX_CERTIFICATES, MAX_LIST};
+use crate::sheet::{self, Field};
+
+/// Splitmix64: the same seed gives the same numbers everywhere.
+pub struct Random {
+    state: u64,
+}
+
+impl Random {
+    /// The generator that starts from a seed.
+    pub fn new(seed: u64) -> Random {
+        Random { state: seed }
+    }
+
+    /// The next 64 bits.
+    pub fn bits(&mut self) -> u64 {
+        self.state = self.state.wrapping_add(0x9E37_79B9_7F4A_7C15);
+        let mut mixed = self.state;
+        mixed = (mixed ^ (mixed >> 30)).wrapping_mul(0xBF58_476D_1CE4_E5B9);
+        mixed = (mixed ^ (mixed >> 27)).wrapping_mul(0x94D0_49BB_1331_11EB);
+        mixed ^ (mixed >> 31)
+    }
+
+    /// A number from 0 to `limit` - 1.
+    pub fn below(&mut self, limit: usize) -> usize {
+        (self.bits() % limit as u64) as usize
+    }
+
+    /// A number from `low` to `high`, both included.
+    pub fn between(&mut self, low: usize, high: usize) -> usize {
+        low + self.below(high - low + 1)
+    }
+
+    /// True in about `percent` of 100 draws.
+    pub fn chance(&mut self, percent: usize) -> bool {
+        self.below(100) < percent
+    }
+
+    /// One of the given things.
+    pub fn pick<T: Copy>(&mut self, from: &[T]) -> T {
+        from[self.below(from.len())]
+    }
+
+    /// The same things in a random order.
+    pub fn shuffle<T>(&mut self, list: &mut [T]) {
+        for place in (1..list.len()).rev() {
+            list.swap(place, self.below(place + 1));
+        }
+    }
+
+    /// Any byte.
+    pub fn byte(&mut self) -> u8 {
+        self.bits() as u8
+    }
+
+    /// Any 16-bit number.
+    pub fn word(&mut self) -> u16 {
+        self.bits() as u16
+    }
+}
+
+/// How often each thing occurs in one random path.
+struct Habits {
+    certificates: usize,
+    alphabet: Vec<u16>,
+    listed: usize,
+    any: usize,
+    mapped: usize,
+    most_pairs: usize,
+    skips: usize,
+}
+
+/// Rates under which many issuer policies share subject policies at every
+/// depth, so that the tree grows fast.
+fn dense(random: &mut Random) -> Habits {
+    let size = random.between(2, 5) as u16;
+    Habits {
+        certificates: random.between(4, MAX_CERTIFICATES),
+        alphabet: (2..2 + size).collect(),
+        listed: 95,
+        any: random.pick(&[0, 50]),
+        mapped: 100,
+        most_pairs: 16,
+        skips: 0,
+    }
+}
+
+/// Draws an alphabet of policies, none of them 0 or anyPolicy, and the rates
+/// for one path.
+fn habits(random: &mut Random) -> Habits {
+    if random.chance(4) {
+        return dense(random);
+    }
+    let most = if random.chance(70) { 4 } else { MAX_CERTIFICATES };
+    let size = random.pick(&[1, 2, 2, 3, 3, 4, 6, 10, 20]);
+    let small = random.chance(70);
+    let alphabet = (0..size)
+        .map(|place| if small { place as u16 + 2 } else { random.word().max(2) })
+        .collect();
+    Habits {
+        certificates: random.between(1, most),
+        alphabet,
+        listed: random.pick(&[25, 50, 75, 95]),
+        any: random.pick(&[0, 20, 60, 95]),
+        mapped: random.pick(&[0, 40, 80, 100]),
+        most_pairs: random.pick(&[1, 2, 4, 6, 16]),
+        skips: random.pick(&[0, 0, 5, 20, 40]),
+    }
+}
+
+/// A well-formed random path. Small alphabets make matches, chains of
+/// mappings and every verdict likely.
+pub fn path(random: &mut Random) -> Path {
+    let habits = habits(random);
+    Path {
+        mapping_inhibit: random.chance(15),
+        explicit_policy: random.chance(45),
+        any_policy_inhibit: random.chance(15),
+        user: user_list(random, &habits.alphabet),
+        certificates: (0..habits.certificates).map(|_| certificate(random, &habits)).collect(),
+    }
+}
+
+/// A user list: empty, any-policy, or policies of the alphabet with repeats
+/// and an outsider now and then.
+fn user_list(random: &mut Random, alphabet: &[u16]) -> Vec<u16> {
+    let length = match random.below(10) {
+        0 => 0,
+        1 => random.between(0, MAX_LIST),
+        _ => random.between(1, 4),
+    };
+    let any = random.pick(&[0, 0, 60]);
+    (0..length)
+        .map(|_| match random.below(100) {
+            rate if rate < any => ANY,
+            99 => random.word().max(1),
+            _ => random.pick(alphabet),
+        })
+        .collect()
+}
+
+/// A certificate whose lists are drawn from the path's alphabet.
+fn certificate(random: &mut Random, habits: &Habits) -> Certificate {
+    let mut policies: Vec<u16> = Vec::new();
+    if !random.chance(4) {
+        for &policy in &habits.alphabet {
+            if random.chance(habits.listed) && !policies.contains(&policy) {
+                policies.push(policy);
+            }
+        }
+        random.shuffle(&mut policies);
+        if random.chance(habits.any) {
+            policies.truncate(MAX_LIST - 1);
+            policies.push(ANY);
+        }
+        policies.truncate(MAX_LIST);
+        random.shuffle(&mut policies);
+    }
+    let mut mappings: Vec<(u16, u16)> = Vec::new();
+    if random.chance(habits.mapped) {
+        let least = habits.most_pairs.div_ceil(2);
+        for _ in 0..random.between(least, habits.most_pairs) {
+            mappings.push((random.pick(&habits.alphabet), random.pick(&habits.alphabet)));
+        }
+    }
+    if !mappings.is_empty() && random.chance(4) {
+        let place = random.below(mappings.len());
+        match random.below(3) {
+            0 => mappings[place].0 = ANY,
+            1 => mappings[place].1 = ANY,
+            _ => mappings[place] = (ANY, ANY),
+        }
+    }
+    Certificate {
+        self_issued: random.chance(25),
+        policies,
+        mappings,
+        require_explicit_policy: skip(random, habits.skips),
+        inhibit_policy_mapping: skip(random, habits.skips),
+        inhibit_any_policy: skip(random, habits.skips),
+    }
+}
+
+/// A skip value, small more often than not.
+fn skip(random: &mut Random, percent: usize) -> Option<u8> {
+    if !random.chance(percent) {
+        None
+    } else if random.chance(80) {
+        Some(random.below(4) as u8)
+    } else {
+        Some(random.pick(&[5, 9, 10, 11, 12, 127, 128, 254, 255]))
+    }
+}
+
+/// A random sheet: well-formed, or damaged in one of the ways below. A field
+/// at fault may stand before or after a second one, or before a cut.
+pub fn sheet(random: &mut Random) -> Vec<u8> {
+    let mut path = path(random);
+    match random.below(20) {
+        0..=10 => sheet::write(&path),
+        11 => flip_bit(random, sheet::write(&path)),
+        12 => cut(random, sheet::write(&path)),
+        13 => extend(random, sheet::write(&path)),
+        14 => (0..random.below(40)).map(|_| random.byte()).collect(),
+        15 => random_after_head(random, &path),
+        _ => {
+            let mut fields = sheet::fields(&path);
+            match random.below(4) {
+                0 => change_field(random, &mut fields, 5),
+                1 => change_field(random, &mut fields, 4),
+                2 => change_field(random, &mut fields, 16),
+                _ => {
+                    repeat_policy(random, &mut path);
+                    fields = sheet::fields(&path);
+                }
+            }
+            if random.chance(20) {
+                let width = random.pick(&[4, 5, 16]);
+                change_field(random, &mut fields, width);
+            }
+            let sheet = sheet::pack(&fields);
+            if random.chance(30) {
+                cut(random, sheet)
+            } else {
+                sheet
+            }
+        }
+    }
+}
+
+/// One bit of the sheet the other way.
+fn flip_bit(random: &mut Random, mut sheet: Vec<u8>) -> Vec<u8> {
+    let place = random.below(sheet.len());
+    sheet[place] ^= 1 << random.below(8);
+    sheet
+}
+
+/// The sheet without some of its last bytes.
+fn cut(random: &mut Random, mut sheet: Vec<u8>) -> Vec<u8> {
+    sheet.truncate(random.below(sheet.len()));
+    sheet
+}
+
+/// The sheet with bytes after it, or with bits set in its last byte.
+fn extend(random: &mut Random, mut sheet: Vec<u8>) -> Vec<u8> {
+    if random.chance(30) {
+        let last = sheet.len() - 1;
+        sheet[last] |= random.byte() & 7;
+    } else {
+        for _ in 0..random.between(1, 3) {
+            sheet.push(random.pick(&[0, 0, 1, 128, 255]));
+        }
+    }
+    sheet
+}
+
+/// The first bytes of a sheet, then random ones.
+fn random_after_head(random: &mut Random, path: &Path) -> Vec<u8> {
+    let mut sheet = sheet::write(path);
+    sheet.truncate(random.between(1, 6));
+    sheet.extend((0..random.below(200)).map(|_| random.byte()));
+    sheet
+}
+
+/// Another value in one of the fields of the given width: 4 bits are edition
+/// and n, 5 bits the counts, 16 bits the policies, of which most become 0.
+pub fn change_field(random: &mut Random, fields: &mut [Field], width: usize) {
+    let places: Vec<usize> = (0..fields.len()).filter(|&place| fields[place].1 == width).collect();
+    if !places.is_empty() {
+        let place = random.pick(&places);
+        let other = random.word() & ((1u32 << width) - 1) as u16;
+        fields[place].0 = if width == 16 && random.chance(80) { 0 } else { other };
+    }
+}
+
+/// A policy twice in one certificate's list, where there is room for it.
+fn repeat_policy(random: &mut Random, path: &mut Path) {
+    let place = random.below(path.certificates.len());
+    let policies = &mut path.certificates[place].policies;
+    if !policies.is_empty() && policies.len() < MAX_LIST {
+        let policy = random.pick(policies);
+        policies.insert(random.below(policies.len() + 1), policy);
+    }
+}
+
+/// A path with faults that its sheet can carry: counts up to 31, n up to 15,
+/// policies 0 and repeats.
+pub fn faulty_path(random: &mut Random) -> Path {
+    let mut path = path(random);
+    for _ in 0..random.between(1, 3) {
+        let count = random.between(0, 31);
+        let place = random.below(path.certificates.len());
+        let certificate = &mut path.certificates[place];
+        match random.below(8) {
+            0 => certificate.policies = (0..count as u16).map(|place| place + 2).collect(),
+            1 => certificate.mappings = vec![(2, 3); count],
+            2 => path.user = vec![2; count],
+            3 => certificate.policies.insert(0, 0),
+            4 => certificate.mappings.insert(0, random.pick(&[(0, 2), (2, 0)])),
+            5 => path.user.insert(0, 0),
+            6 => repeat_policy(random, &mut path),
+            _ => path.certificates.resize(random.between(1, 15), Certificate::default()),
+        }
+    }
+    path.user.truncate(31);
+    for certificate in &mut path.certificates {
+        certificate.policies.truncate(31);
+        certificate.mappings.truncate(31);
+    }
+    path
+}
+
+/// The kinds of full sheets.
+pub const FULL_KINDS: [Full; 6] =
+    [Full::Straight, Full::Pairs, Full::Square, Full::Fan, Full::Any, Full::Drawn];
+
+/// A kind of full sheet: each certificate has 16 policies and 16 pairs.
+#[derive(Clone, Copy, Debug, PartialEq, Eq)]
+pub enum Full {
+    /// Each policy is mapped to one policy of the next certificate.
+    Straight,
+    /// Eight policies are mapped to two each, the other eight to themselves.
+    Pairs,
+    /// Four policies are mapped to all four of them; the tree grows fourfold.
+    Square,
+    /// One policy is mapped to all sixteen of the next certificate, so that
+    /// fifteen fall away at each depth.
+    Fan,
+    /// anyPolicy, fifteen new policies, and sixteen new issuer policies that
+    /// hang under anyPolicy: the widest levels.
+    Any,
+    /// Policies and pairs drawn from an alphabet of twenty-four.
+    Drawn,
+}
+
+/// A full path of n certificates, with a user list of 16 and all skip values
+/// present, so that the sheet has the greatest length for its n. It is
+/// answered 0 and no depth count up to n is 0.
+pub fn full(kind: Full, n: usize, random: &mut Random) -> Path {
+    let mut user: Vec<u16> = (0..MAX_LIST as u16).map(|place| place + 2).collect();
+    if kind == Full::Any {
+        user[0] = ANY;
+    }
+    let certificates = (0..n).map(|place| full_certificate(kind, place as u16, random)).collect();
+    Path { user, certificates, ..Path::default() }
+}
+
+/// The certificate at a place, counted from 0, of a full path.
+fn full_certificate(kind: Full, place: u16, random: &mut Random) -> Certificate {
+    let own = |policy: u16| 2 + policy + 16 * place;
+    let next = |policy: u16| 2 + policy + 16 * (place + 1);
+    let (mut policies, mut mappings): (Vec<u16>, Vec<(u16, u16)>) = match kind {
+        Full::Straight => (
+            (0..16).map(own).collect(),
+            (0..16).map(|policy| (own(policy), next(15 - policy))).collect(),
+        ),
+        Full::Pairs => (
+            (2..18).collect(),
+            (0..16)
+                .map(|pair| (2 + pair % 8, if pair < 8 { 2 + pair } else { 2 + (pair + 1) % 8 }))
+                .collect(),
+        ),
+        Full::Square => {
+            ((2..18).collect(), (0..16).map(|pair| (2 + pair / 4, 2 + pair % 4)).collect())
+        }
+        Full::Fan => {
+            ((0..16).map(own).collect(), (0..16).map(|policy| (own(5), next(policy))).collect())
+        }
+        Full::Any => {
+            let fresh = |policy: u16| 100 + policy + 64 * place;
+            let mut policies: Vec<u16> = (0..15).map(fresh).collect();
+            policies.push(ANY);
+            (policies, (0..16).map(|policy| (fresh(16 + policy), fresh(32 + policy))).collect())
+        }
+        Full::Drawn => drawn_lists(random),
+    };
+    random.shuffle(&mut policies);
+    random.shuffle(&mut mappings);
+    Certificate {
+        self_issued: false,
+        policies,
+        mappings,
+        require_explicit_policy: Some(255),
+        inhibit_policy_mapping: Some(255),
+        inhibit_any_policy: Some(255),
+    }
+}
+
+/// Sixteen policies of an alphabet of twenty-four, policy 2 always among them
+/// and mapped to itself, so that the path stands; the other pairs are free.
+fn drawn_lists(random: &mut Random) -> (Vec<u16>, Vec<(u16, u16)>) {
+    let mut others: Vec<u16> = (3..26).collect();
+    random.shuffle(&mut others);
+    let mut policies = vec![2];
+    policies.extend(&others[..15]);
+    let mut mappings = vec![(2, 2)];
+    mappings.extend((0..15).map(|_| (random.between(2, 25) as u16, random.between(2, 25) as u16)));
+    (policies, mappings)
+}
+
+/// Case B at n certificates: each with policies 21 and 22 and the four pairs
+/// among them, the last without pairs. The tree has 2^n leaves.
+pub fn doubling(n: usize) -> Path {
+    let doubled = Certificate {
+        policies: vec![21, 22],
+        mappings: vec![(21, 21), (21, 22), (22, 21), (22, 22)],
+        ..Certificate::default()
+    };
+    let mut certificates = vec![doubled; n];
+    certificates[n - 1].mappings.clear();
+    Path { user: vec![ANY], certificates, ..Path::default() }
+}

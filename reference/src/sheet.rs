@@ -1,0 +1,422 @@
+//! The packed sheet: reader, writer, and the refusals of a decoded path.
+
+use crate::path::{Certificate, Path, MAX_CERTIFICATES, MAX_LIST};
+
+/// "The longest sheet is 8,352 bits, 1,044 bytes."
+pub const LONGEST: usize = 1_044;
+
+/// "1: the sheet ends inside or before the next field"
+pub const ENDS_EARLY: u8 = 1;
+/// "2: edition is not 1"
+pub const WRONG_EDITION: u8 = 2;
+/// "3: n is 0 or above 10, user count above 16, or a certificate's present
+/// count 0 or above 16"
+pub const WRONG_COUNT: u8 = 3;
+/// "4: a policy is 0, in any list"
+pub const NO_POLICY: u8 = 4;
+/// "5: a policy repeats within one certificate's policies"
+pub const REPEATED_POLICY: u8 = 5;
+/// "6: a fill bit is not zero, or bytes follow"
+pub const NOT_ZERO_FILL: u8 = 6;
+/// "7: a lent table is too short"
+pub const TOO_SHORT: u8 = 7;
+
+/// "Bit-packed fields, most significant bit first, no gaps."
+struct Reader<'a> {
+    sheet: &'a [u8],
+    position: usize,
+}
+
+impl Reader<'_> {
+    /// Takes the next field of at most 16 bits; 1 if the sheet ends inside or
+    /// before it.
+    fn field(&mut self, width: usize) -> Result<u16, u8> {
+        let end = self.position + width;
+        if end > self.sheet.len() * 8 {
+            return Err(ENDS_EARLY);
+        }
+        let touched = &self.sheet[self.position / 8..end.div_ceil(8)];
+        let whole = touched.iter().fold(0u32, |bits, &byte| bits << 8 | u32::from(byte));
+        let after = end.next_multiple_of(8) - end;
+        self.position = end;
+        Ok(((whole >> after) & ((1 << width) - 1)) as u16)
+    }
+
+    /// A field of one bit.
+    fn flag(&mut self) -> Result<bool, u8> {
+        Ok(self.field(1)? == 1)
+    }
+
+    /// A policy field: 4 if it is 0.
+    fn policy(&mut self) -> Result<u16, u8> {
+        match self.field(16)? {
+            0 => Err(NO_POLICY),
+            policy => Ok(policy),
+        }
+    }
+
+    /// "present, 1 bit, and if set a count (5 bits)": 3 if the present count
+    /// is 0 or above 16. An absent list has the count 0.
+    fn present_count(&mut self) -> Result<usize, u8> {
+        if !self.flag()? {
+            return Ok(0);
+        }
+        match usize::from(self.field(5)?) {
+            count @ 1..=MAX_LIST => Ok(count),
+            _ => Err(WRONG_COUNT),
+        }
+    }
+
+    /// "for each skip value in the order above, present, 1 bit, and if set the
+    /// value, 8 bits"
+    fn skip(&mut self) -> Result<Option<u8>, u8> {
+        Ok(if self.flag()? { Some(self.field(8)? as u8) } else { None })
+    }
+
+    /// "for each certificate: self-issued, 1 bit; policies present [...];
+    /// mappings present [...]; then for each skip value"
+    fn certificate(&mut self) -> Result<Certificate, u8> {
+        let self_issued = self.flag()?;
+        let count = self.present_count()?;
+        let mut policies = Vec::with_capacity(count);
+        for _ in 0..count {
+            let policy = self.policy()?;
+            if policies.contains(&policy) {
+                return Err(REPEATED_POLICY);
+            }
+            policies.push(policy);
+        }
+        let count = self.present_count()?;
+        let mut mappings = Vec::with_capacity(count);
+        for _ in 0..count {
+            let issuer = self.policy()?;
+            let subject = self.policy()?;
+            mappings.push((issuer, subject));
+        }
+        Ok(Certificate {
+            self_issued,
+            policies,
+            mappings,
+            require_explicit_policy: self.skip()?,
+            inhibit_policy_mapping: self.skip()?,
+            inhibit_any_policy: self.skip()?,
+        })
+    }
+
+    /// "zero bits to the end of the byte. Nothing follows."
+    fn finish(&mut self) -> Result<(), u8> {
+        let fill = self.position.next_multiple_of(8) - self.position;
+        if self.field(fill)? != 0 || self.position != self.sheet.len() * 8 {
+            return Err(NOT_ZERO_FILL);
+        }
+        Ok(())
+    }
+}
+
+/// Reads a sheet "field by field, 1 before the field's own fault, 4 before 5;
+/// then 6".
+pub fn read(sheet: &[u8]) -> Result<Path, u8> {
+    let mut reader = Reader { sheet, position: 0 };
+    if reader.field(4)? != 1 {
+        return Err(WRONG_EDITION);
+    }
+    let n = usize::from(reader.field(4)?);
+    if n == 0 || n > MAX_CERTIFICATES {
+        return Err(WRONG_COUNT);
+    }
+    let mapping_inhibit = reader.flag()?;
+    let explicit_policy = reader.flag()?;
+    let any_policy_inhibit = reader.flag()?;
+    let user_count = usize::from(reader.field(5)?);
+    if user_count > MAX_LIST {
+        return Err(WRONG_COUNT);
+    }
+    let user = (0..user_count).map(|_| reader.policy()).collect::<Result<_, _>>()?;
+    let certificates = (0..n).map(|_| reader.certificate()).collect::<Result<_, _>>()?;
+    reader.finish()?;
+    Ok(Path { mapping_inhibit, explicit_policy, any_policy_inhibit, user, certificates })
+}
+
+/// One field of a sheet: its value and its width in bits.
+pub type Field = (u16, usize);
+
+/// The fields of a path in the sheet's order, the fill not included. "a count
+/// of 0 policies or pairs being absence"
+pub fn fields(path: &Path) -> Vec<Field> {
+    let mut fields = vec![
+        (1, 4),
+        (path.certificates.len() as u16, 4),
+        (u16::from(path.mapping_inhibit), 1),
+        (u16::from(path.explicit_policy), 1),
+        (u16::from(path.any_policy_inhibit), 1),
+        (path.user.len() as u16, 5),
+    ];
+    fields.extend(path.user.iter().map(|&policy| (policy, 16)));
+    for certificate in &path.certificates {
+        fields.push((u16::from(certificate.self_issued), 1));
+        put_present_count(&mut fields, certificate.policies.len());
+        fields.extend(certificate.policies.iter().map(|&policy| (policy, 16)));
+        put_present_count(&mut fields, certificate.mappings.len());
+        for &(issuer, subject) in &certificate.mappings {
+            fields.extend([(issuer, 16), (subject, 16)]);
+        }
+        put_skip(&mut fields, certificate.require_explicit_policy);
+        put_skip(&mut fields, certificate.inhibit_policy_mapping);
+        put_skip(&mut fields, certificate.inhibit_any_policy);
+    }
+    fields
+}
+
+/// "present, 1 bit, and if set a count (5 bits)"
+fn put_present_count(fields: &mut Vec<Field>, count: usize) {
+    fields.push((u16::from(count > 0), 1));
+    if count > 0 {
+        fields.push((count as u16, 5));
+    }
+}
+
+/// "present, 1 bit, and if set the value, 8 bits"
+fn put_skip(fields: &mut Vec<Field>, skip: Option<u8>) {
+    fields.push((u16::from(skip.is_some()), 1));
+    if let Some(value) = skip {
+        fields.push((u16::from(value), 8));
+    }
+}
+
+/// Packs fields "most significant bit first, no gaps", then "zero bits to the
+/// end of the byte". Bits above a field's width are dropped.
+pub fn pack(fields: &[Field]) -> Vec<u8> {
+    let mut sheet = Vec::new();
+    let mut used = 0;
+    for &(value, width) in fields {
+        for bit in (0..width).rev() {
+            if used % 8 == 0 {
+                sheet.push(0);
+            }
+            sheet[used / 8] |= ((value >> bit & 1) as u8) << (7 - used % 8);
+            used += 1;
+        }
+    }
+    sheet
+}
+
+/// The sheet of a path, which is the path's own if `refusal` finds no fault.
+pub fn write(path: &Path) -> Vec<u8> {
+    pack(&fields(path))
+}
+
+/// "A path handed over decoded is refused by 3, 4 and 5 in the sheet's field
+/// order, a count of 0 policies or pairs being absence."
+pub fn refusal(path: &Path) -> Result<(), u8> {
+    if path.certificates.is_empty() || path.certificates.len() > MAX_CERTIFICATES {
+        return Err(WRONG_COUNT);
+    }
+    user_fault(&path.user)?;
+    for certificate in &path.certificates {
+        policies_fault(&certificate.policies)?;
+        pairs_fault(&certificate.mappings)?;
+    }
+    Ok(())
+}
+
+/// The user list: 3 for its count, then 4 for its policies.
+fn user_fault(list: &[u16]) -> Result<(), u8> {
+    if list.len() > MAX_LIST {
+        return Err(WRONG_COUNT);
+    }
+    if list.contains(&0) {
+        return Err(NO_POLICY);
+    }
+    Ok(())
+}
+
+/// A certificate's policies: 3 for the count, then at each policy 4 before 5.
+fn policies_fault(policies: &[u16]) -> Result<(), u8> {
+    if policies.len() > MAX_LIST {
+        return Err(WRONG_COUNT);
+    }
+    for (place, policy) in policies.iter().enumerate() {
+        if *policy == 0 {
+            return Err(NO_POLICY);
+        }
+        if policies[..place].contains(policy) {
+            return Err(REPEATED_POLICY);
+        }
+    }
+    Ok(())
+}
+
+/// A certificate's pairs: 3 for the count, then 4 for issuer or subject.
+fn pairs_fault(pairs: &[(u16, u16)]) -> Result<(), u8> {
+    if pairs.len() > MAX_LIST {
+        return Err(WRONG_COUNT);
+    }
+    if pairs.iter().any(|&(issuer, subject)| issuer == 0 || subject == 0) {
+        return Err(NO_POLICY);
+    }
+    Ok(())
+}
+
+/// The writer: 7 first if the buffer is below 1,044 bytes, then the path's
+/// refusals. Returns the number and the sheet's length, "0 on refusal". "On
+/// refusal the buffer is unchanged; otherwise it holds the sheet first and
+/// every later byte is unchanged."
+pub fn write_into(path: &Path, buffer: &mut [u8]) -> (u8, usize) {
+    if buffer.len() < LONGEST {
+        return (TOO_SHORT, 0);
+    }
+    if let Err(number) = refusal(path) {
+        return (number, 0);
+    }
+    let sheet = write(path);
+    buffer[..sheet.len()].copy_from_slice(&sheet);
+    (0, sheet.len())
+}
+
+/// Reads a sheet and writes its path again: the writer's 7 first, then the
+/// reader's refusals.
+pub fn rewrite(sheet: &[u8], buffer: &mut [u8]) -> (u8, usize) {
+    if buffer.len() < LONGEST {
+        return (TOO_SHORT, 0);
+    }
+    match read(sheet) {
+        Ok(path) => write_into(&path, buffer),
+        Err(number) => (number, 0),
+    }
+}
+
+#[cfg(test)]
+mod tests {
+    use super::*;
+    use crate::known;
+
+    fn with(certificate: Certificate) -> Path {
+        Path { user: vec![1], certificates: vec![certificate], ..Path::default() }
+    }
+
+    #[test]
+    fn e_has_the_written_sheet() {
+        let rows = known::rows();
+        let row = rows.iter().find(|row| row.name == "E").unwrap();
+        assert_eq!(write(&row.path), known::E_SHEET);
+        assert_eq!(read(&known::E_SHEET), Ok(row.path.clone()));
+    }
+
+    #[test]
+    fn known_paths_make_the_round_trip() {
+        for row in known::rows() {
+            assert_eq!(refusal(&row.path), Ok(()));
+            assert_eq!(read(&write(&row.path)), Ok(row.path), "{}", row.name);
+        }
+    }
+
+    #[test]
+    fn short_inputs() {
+        assert_eq!(read(&[]), Err(1));
+        assert_eq!(read(&[0x21]), Err(2));
+        assert_eq!(read(&[0x01]), Err(2));
+        assert_eq!(read(&[0x10]), Err(3));
+        assert_eq!(read(&[0x1B]), Err(3));
+        assert_eq!(read(&[0x1A]), Err(1));
+    }
+
+    #[test]
+    fn every_cut_of_e_ends_early() {
+        for length in 0..known::E_SHEET.len() {
+            assert_eq!(read(&known::E_SHEET[..length]), Err(1));
+        }
+    }
+
+    #[test]
+    fn counts_are_tested_before_what_they_count() {
+        assert_eq!(read(&[0x11, 17]), Err(3));
+        assert_eq!(read(&[0x11, 16]), Err(1));
+        // Self-issued 0, policies present 1, count 0.
+        assert_eq!(read(&[0x11, 0, 0b0100_0000]), Err(3));
+        // Self-issued 0, policies present 1, count 17.
+        assert_eq!(read(&[0x11, 0, 0b0110_0010]), Err(3));
+        // Policies absent, mappings present 1, count 0.
+        assert_eq!(read(&[0x11, 0, 0b0010_0000]), Err(3));
+    }
+
+    #[test]
+    fn a_field_that_is_cut_off_is_1_before_its_own_fault() {
+        let zero = with(Certificate { policies: vec![0], ..Certificate::default() });
+        let sheet = write(&zero);
+        assert_eq!(read(&sheet), Err(4));
+        // The policy field ends in the seventh byte.
+        assert_eq!(read(&sheet[..7]), Err(4));
+        assert_eq!(read(&sheet[..6]), Err(1));
+    }
+
+    #[test]
+    fn the_issuer_is_a_field_before_the_subject() {
+        let zero = with(Certificate { mappings: vec![(0, 7)], ..Certificate::default() });
+        let sheet = write(&zero);
+        // The issuer field ends with the seventh byte, the subject with the
+        // ninth.
+        assert_eq!(read(&sheet[..7]), Err(4));
+        assert_eq!(read(&sheet[..6]), Err(1));
+    }
+
+    #[test]
+    fn repeats_and_zeros() {
+        let path = with(Certificate { policies: vec![5, 6, 5, 0], ..Certificate::default() });
+        assert_eq!((read(&write(&path)), refusal(&path)), (Err(5), Err(5)));
+        let path = with(Certificate { policies: vec![5, 6, 0, 5], ..Certificate::default() });
+        assert_eq!((read(&write(&path)), refusal(&path)), (Err(4), Err(4)));
+        let path = with(Certificate { mappings: vec![(5, 6), (5, 6)], ..Certificate::default() });
+        assert_eq!((read(&write(&path)), refusal(&path)), (Ok(path.clone()), Ok(())));
+        let path = Path { user: vec![9, 9], ..with(Certificate::default()) };
+        assert_eq!((read(&write(&path)), refusal(&path)), (Ok(path.clone()), Ok(())));
+    }
+
+    #[test]
+    fn fill_and_what_follows() {
+        let mut sheet = known::E_SHEET.to_vec();
+        sheet.push(0);
+        assert_eq!(read(&sheet), Err(6));
+        sheet.pop();
+        // E uses 75 bits: the last 5 are fill.
+        for bit in 0..5 {
+            sheet[9] = 1 << bit;
+            assert_eq!(read(&sheet), Err(6));
+        }
+        // The last skip value is present, and its value is missing.
+        sheet[9] = 0x20;
+        assert_eq!(read(&sheet), Err(1));
+    }
+
+    #[test]
+    fn counts_of_a_decoded_path() {
+        assert_eq!(refusal(&Path::default()), Err(3));
+        let eleven = Path { certificates: vec![Certificate::default(); 11], ..Path::default() };
+        assert_eq!(refusal(&eleven), Err(3));
+        let user = Path { user: vec![0; 17], ..with(Certificate::default()) };
+        assert_eq!(refusal(&user), Err(3));
+    }
+
+    #[test]
+    fn the_longest_sheet() {
+        let certificate = Certificate {
+            self_issued: true,
+            policies: (2..18).collect(),
+            mappings: vec![(65_535, 65_535); 16],
+            require_explicit_policy: Some(255),
+            inhibit_policy_mapping: Some(0),
+            inhibit_any_policy: Some(128),
+        };
+        let path = Path {
+            mapping_inhibit: true,
+            explicit_policy: false,
+            any_policy_inhibit: true,
+            user: vec![65_535; 16],
+            certificates: vec![certificate; 10],
+        };
+        let mut buffer = [7; LONGEST + 1];
+        assert_eq!(write_into(&path, &mut buffer), (0, LONGEST));
+        assert_eq!(buffer[LONGEST], 7);
+        assert_eq!(read(&buffer[..LONGEST]), Ok(path.clone()));
+        assert_eq!(write_into(&path, &mut buffer[..LONGEST - 1]), (7, 0));
+    }
+}
