@@ -1,9 +1,9 @@
 #!/usr/bin/env python3
-"""Writes the sheets of document 01's known paths and of the reader's and writer's test program.
+"""Writes the sheets of document 01's known paths with the answers expected, and the sheets of the two test programs.
 
-    examples/make_sheets.py     writes examples/*.sheet and crates/sheet_check/data/*
+    examples/make_sheets.py     writes examples/*.sheet, examples/*.answer and the data of crates/sheet_check and crates/path_check
 
-The sheets are stored in the repository; this says what is in them. It packs bits by itself and uses no other code of the project.
+All of these are stored in the repository; this says what is in them. It packs bits by itself and uses no other code of the project.
 """
 import pathlib
 
@@ -62,6 +62,35 @@ KNOWN = {
 }
 
 
+# What document 01 says of each: verdict, place, counts from depth 0, authority set, user set.
+ANSWERS = {
+    "A": (0, 0, [1, 2, 2], [11, 12], [11, 12]),
+    "B": (0, 0, [1, 2, 2, 2], [21, 22], [21, 22]),
+    "B10": (0, 0, [1] + [2] * 10, [21, 22], [21, 22]),
+    "C": (0, 0, [], [], []),
+    "D": (8, 1, [], [], []),
+    "E": (0, 0, [1, 1], [1], [30, 31]),
+    "F": (0, 0, [], [], []),
+    "G-self-issued": (0, 0, [1, 1, 1], [40], [40]),
+    "G": (0, 0, [], [], []),
+    "H-50": (0, 0, [1, 1, 1], [50], [50]),
+    "H-51": (10, 2, [1, 1, 1], [50], []),
+    "I-50": (10, 2, [1, 1, 1], [51], []),
+    "I-51": (0, 0, [1, 1, 1], [51], [51]),
+    "J": (8, 2, [], [], []),
+    "K": (9, 1, [], [], []),
+    "L-0": (10, 1, [], [], []),
+    "L-1": (0, 0, [], [], []),
+    "M": (10, 2, [], [], []),
+}
+
+
+def answer(verdict, place, counts, authority, user):
+    """The lines that the program writes."""
+    rows = [["verdict", verdict, "place", place], ["counts"] + (counts + [0] * 11)[:11], ["authority"] + authority, ["user"] + user]
+    return "".join(" ".join(map(str, row)) + "\n" for row in rows)
+
+
 def full(last_policy=None, last_subject=None):
     """A sheet of the greatest length: ten certificates with sixteen policies, sixteen pairs and three skip values, and sixteen users."""
     certificates = []
@@ -107,15 +136,21 @@ def test_sheets():
     }
 
 
-def main():
-    for name, fields in KNOWN.items():
-        (ROOT / "examples" / f"{name}.sheet").write_bytes(packed(fields))
-    data = ROOT / "crates" / "sheet_check" / "data"
+def store(crate, sheets):
+    """The sheets as a program's data, and their names as its arguments."""
+    data = ROOT / "crates" / crate / "data"
     data.mkdir(parents=True, exist_ok=True)
-    sheets = test_sheets()
     for name, content in sheets.items():
         (data / name).write_bytes(content)
     (data.parent / "args").write_text("".join(f"{name}\n" for name in sheets))
+
+
+def main():
+    for name, fields in KNOWN.items():
+        (ROOT / "examples" / f"{name}.sheet").write_bytes(packed(fields))
+        (ROOT / "examples" / f"{name}.answer").write_text(answer(*ANSWERS[name]))
+    store("sheet_check", test_sheets())
+    store("path_check", {name: packed(fields) for name, fields in KNOWN.items()})
 
 
 if __name__ == "__main__":
