@@ -1,0 +1,115 @@
+-- The number that a row of bits writes: rows side by side, a row within a row, and the row of a byte.
+use Prim.Native.Nat.{ℕ, zero, suc, _+_, _*_, _%_, _/_, _^_, _-_, _<_, _≤_}
+use native.Mathlib.Omega.{arith}
+use native.Mathlib.Numerals.{add-one}
+use native.Mathlib.Nat.{pow-suc, add-zero, add-suc, add-assoc, mul-assoc}
+use mathlib.Core.List.{List}
+use mathlib.Core.Path.{_≡_, refl, ap, sym, _∙_}
+use lib.Pow.{pow-mono, high, low, shr-shr, mod-pow-add, shl-exact}
+use borrow.Author.Tests.{le-leb, lt-leb}
+use lib.ListN.{getD, length}
+use Rattle.bitfield.specs.Field.{field-at, window}
+use Rattle.bitfield.specs.declared.Field.the-variants.{Ended, Value}
+use Rattle.rules.specs.Bits.{bit, number, field}
+
+number-zero : (f : ℕ → ℕ) (k : ℕ) → number f k 0 ≡ 0
+unfolding number
+number-zero f k = refl
+
+number-suc : (f : ℕ → ℕ) (k w : ℕ) → number f k (suc w) ≡ 2 * number f k w + f (k + w)
+unfolding number
+number-suc f k w = refl
+
+module _ (f : ℕ → ℕ) (binary : (k : ℕ) → f k < 2) where
+  pub number-below : (k w : ℕ) → number f k w < 2 ^ w
+  number-below k zero = omega (arith, number-zero f k)
+  number-below k (suc w) = omega (arith, number-suc f k w, number-below k w, binary (k + w), pow-suc 2 w)
+
+-- rows side by side
+pub number-append : (f : ℕ → ℕ) (k v w : ℕ) → number f k (v + w) ≡ number f k v * 2 ^ w + number f (k + v) w
+number-append f k v zero = rw add-zero (omega (arith, number-zero f (k + v)))
+number-append f k v (suc w) =
+    rw (add-suc, number-suc f k, number-suc f (k + v), add-assoc k v w, pow-suc)
+    (omega (arith, number-append f k v w, mul-assoc (number f k v) (2 ^ w) 2))
+
+-- a row of w bits that starts v bits into a row and has u bits after it there
+pub number-within : (f : ℕ → ℕ) → ((k : ℕ) → f k < 2) → (k v w u : ℕ) → number f k ((v + w) + u) / 2 ^ u % 2 ^ w ≡ number f (k + v) w
+number-within f binary k v w u =
+    rw (number-append f k (v + w) u, high _ u (number-below f binary _ u), number-append f k v w)
+    (low _ w (number-below f binary _ w))
+
+-- w bits that are those of x
+pub number-digits : (f : ℕ → ℕ) (k w x : ℕ) → ((j : ℕ) → j < w → f (k + j) ≡ x / 2 ^ (w - suc j) % 2) → number f k w ≡ x % 2 ^ w
+number-digits f k zero x same = omega (arith, number-zero f k)
+number-digits f k (suc w) x same =
+    rw (number-suc f k, ← add-one w) (omega (arith, number-digits f k w (x / 2) halved, last, mod-pow-add x w 1))
+  where
+    halved : (j : ℕ) → j < w → f (k + j) ≡ x / 2 / 2 ^ (w - suc j) % 2
+    halved j h =
+        let e : suc w - suc j ≡ 1 + (w - suc j) = omega arith in
+        same j (omega arith) ∙ ap (λ (e : ℕ). x / 2 ^ e % 2) e ∙ ap (λ (y : ℕ). y % 2) (sym (shr-shr x 1 (w - suc j)))
+
+    last : f (k + w) ≡ x % 2
+    last =
+        let e : suc w - suc w ≡ 0 = omega arith in
+        same w (omega arith) ∙ ap (λ (e : ℕ). x / 2 ^ e % 2) e ∙ omega arith
+
+-- 1 shifted by w places in a word of n
+pub one-shifted : (w n : ℕ) → w < n → 1 * 2 ^ w % 2 ^ n ≡ 2 ^ w
+one-shifted w n h = shl-exact 1 w n (omega arith) (omega arith) ∙ omega arith
+
+module _ (s : List ℕ) where
+  pub bit-below : (k : ℕ) → bit s k < 2
+  unfolding bit
+  bit-below k = omega arith
+
+  -- a bit of a byte
+  bit-in : (b j : ℕ) → j < 8 → bit s (8 * b + j) ≡ getD s b 0 / 2 ^ (8 - suc j) % 2
+  unfolding bit
+  bit-in b j h =
+      let byte : (8 * b + j) / 8 ≡ b = omega arith in
+      let place : 7 - (8 * b + j) % 8 ≡ 8 - suc j = omega arith in
+      λ i. getD s (byte i) 0 / 2 ^ (place i) % 2
+
+  -- the bits of a byte write it
+  pub byte-number : (b : ℕ) → getD s b 0 < 2 ^ 8 → number (bit s) (8 * b) 8 ≡ getD s b 0
+  byte-number b h = number-digits (bit s) (8 * b) 8 (getD s b 0) (bit-in b) ∙ omega arith
+
+  -- the bits of three bytes
+  pub window-number : (b : ℕ) → getD s b 0 < 2 ^ 8 → getD s (b + 1) 0 < 2 ^ 8 → getD s (b + 2) 0 < 2 ^ 8
+      → number (bit s) (8 * b) window ≡ getD s b 0 * 65536 + getD s (b + 1) 0 * 256 + getD s (b + 2) 0
+  window-number b h₀ h₁ h₂ =
+      let one : 8 * b + 8 ≡ 8 * (b + 1) = omega arith in
+      let two : 8 * b + 16 ≡ 8 * (b + 2) = omega arith in
+      omega (
+        arith,
+        number-append (bit s) (8 * b) 16 8,
+        number-append (bit s) (8 * b) 8 8,
+        byte-number b h₀,
+        ap (λ (k : ℕ). number (bit s) k 8) one ∙ byte-number (b + 1) h₁,
+        ap (λ (k : ℕ). number (bit s) k 8) two ∙ byte-number (b + 2) h₂,
+      )
+
+  -- a field of w bits that ends within the n bits from its first byte on
+  pub field-within : (at w n : ℕ) → at % 8 + w ≤ n → number (bit s) (8 * (at / 8)) n / 2 ^ (n - (at % 8 + w)) % 2 ^ w ≡ field s at w
+  unfolding field
+  field-within at w n h =
+      let whole : n ≡ at % 8 + w + (n - (at % 8 + w)) = omega arith in
+      let start : 8 * (at / 8) + at % 8 ≡ at = omega arith in
+      ap (λ (m : ℕ). number (bit s) (8 * (at / 8)) m / 2 ^ (n - (at % 8 + w)) % 2 ^ w) whole
+      ∙ number-within (bit s) bit-below (8 * (at / 8)) (at % 8) w (n - (at % 8 + w))
+      ∙ ap (λ (k : ℕ). number (bit s) k w) start
+
+  pub field-fits : (at w n : ℕ) → w ≤ n → field s at w < 2 ^ n
+  unfolding field
+  field-fits at w n h = omega (arith, number-below (bit s) bit-below at w, pow-mono h)
+
+  -- inside the slice
+  pub field-inside : (at w : ℕ) → at + w ≤ 8 * length s → field-at s at w ≡ Value (field s at w)
+  unfolding field-at
+  field-inside at w h = simp (le-leb _ _ h)
+
+  -- past its end
+  pub field-past : (at w : ℕ) → 8 * length s < at + w → field-at s at w ≡ Ended
+  unfolding field-at
+  field-past at w h = simp (lt-leb _ _ h)

@@ -1,0 +1,88 @@
+// Fields of bits in a byte slice, most significant bit first, at any bit position.
+ghost use mathlib.Core.Path.{_≡_};
+ghost use Prim.Native.Nat.{_+_, _*_, _/_, _%_, _^_, _≤_, _<_};
+ghost use lib.ListN.{length, getD};
+ghost use Rattle.rules.specs.Bits.{bit, number, put-field};
+ghost use Rattle.bitfield.specs.Field.{field-at, window};
+
+// A field that was read, or that the slice ends inside or before it.
+pub enum Field {
+    Ended,
+    Value(u16),
+}
+
+// The bits read at once for a field: one of 16 bits that starts inside a byte ends within three bytes.
+const WINDOW: usize = 24;
+
+// A byte, 0 past the end.
+fn byte_at(s: &[u8], i: usize) -> u32
+    ensures { λ r. ⌜ (r ≡ getD (now (s .entry)) i 0) × (r < 2 ^ 8) ⌝ }
+{
+    if i < s.len() { s[i] as u32 } else { 0 }
+}
+
+// The bits of the three bytes from byte `i` on.
+fn window_at(s: &[u8], i: usize) -> u32
+    requires { ⌜ i + 2 < 2 ^ 64 ⌝ }
+    ensures { λ r. ⌜ r ≡ number (bit (now (s .entry))) (8 * i) window ⌝ }
+{
+    byte_at(s, i) * 65536 + byte_at(s, i + 1) * 256 + byte_at(s, i + 2)
+}
+
+// The field of `width` bits at bit position `at`. The slice ends first if it has fewer than `at + width` bits. The test counts
+// bytes, since neither the sum nor the slice's bits need fit a usize.
+pub fn read_field(s: &[u8], at: usize, width: usize) -> Field
+    requires { ⌜ width ≤ 16 ⌝ }
+    ensures { λ r. ⌜ r ≡ field-at (now (s .entry)) at width ⌝ }
+{
+    let byte = at / 8;
+    let end = at % 8 + width;
+    if s.len() < byte + (end + 7) / 8 {
+        return Field::Ended;
+    }
+    let bits = window_at(s, byte) >> (WINDOW - end);
+    Field::Value((bits % (1 << width)) as u16)
+}
+
+fn wide(b: u8) -> u16
+    ensures { λ r. ⌜ r ≡ b ⌝ }
+{
+    b as u16
+}
+
+// A byte's front, the last `width` bits of `value` and the byte's last `after` bits, side by side.
+fn splice(byte: u8, width: usize, after: usize, value: u16) -> u8
+    requires { ⌜ width + after ≤ 8 ⌝ }
+    ensures { λ r. ⌜ r ≡ (byte / 2 ^ (width + after) * 2 ^ width + value % 2 ^ width) * 2 ^ after + byte % 2 ^ after ⌝ }
+{
+    let whole = wide(byte);
+    let front = whole >> (width + after);
+    let put = value % (1 << width);
+    let back = whole % (1 << after);
+    ((((front << width) + put) << after) + back) as u8
+}
+
+// Puts the last `width` bits of `value` at bit position `at`, within one byte.
+fn write_part(s: &mut [u8], at: usize, width: usize, value: u16)
+    requires { ⌜ (at % 8 + width ≤ 8) × (at < 8 * length (now s)) ⌝ }
+    ensures { λ r. ⌜ now (s .exit) ≡ put-field (now (s .entry)) at width value ⌝ }
+{
+    let place = at / 8;
+    s[place] = splice(s[place], width, 8 - at % 8 - width, value);
+}
+
+// Puts the last `width` bits of `value` at bit position `at`, and keeps every other bit.
+pub fn write_field(s: &mut [u8], at: usize, width: usize, value: u16)
+    requires { ⌜ (width ≤ 16) × (at < 65536) × (at + width ≤ 8 * length (now s)) ⌝ }
+    ensures { λ r. ⌜ now (s .exit) ≡ put-field (now (s .entry)) at width value ⌝ }
+{
+    let mut next = at;
+    let mut left = width;
+    while 0 < left {
+        let room = 8 - next % 8;
+        let part = if left < room { left } else { room };
+        left -= part;
+        write_part(s, next, part, value >> left);
+        next += part;
+    }
+}

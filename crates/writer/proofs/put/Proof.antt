@@ -1,0 +1,29 @@
+-- `writer::put` meets its contract: one field, within the room that it was given.
+use Prim.Native.Nat.{_≤_}
+use native.Mathlib.Omega.{arith}
+use borrow.Author.Needs.{needs}
+use Rattle.writer.proofs.Laws.{puts-one, room-one}
+use Rattle.writer.proofs.put.Statement.{statement}
+use Rattle.writer.proofs.put.Tie as tie
+use Rattle.writer.proofs.put.Reads as reads
+use Rattle.writer.proofs.put.Lts as lts
+use Rattle.bitfield.proofs.write_field.Reads as write-field-reads
+
+write-field-requires : tie.Need-write-field-requires
+write-field-requires c κs =
+    let a = c .before .before .args in
+    omega (arith, room-one (a .width) (a .value) (c .before .before .pre .1), c .before .before .pre .1 .buffer)
+
+add-result : tie.Need-add-result
+add-result c = search needs
+
+same-length : tie.Need-same-length
+same-length c = search needs
+
+returns : tie.Need-returns
+returns c =
+    let a = c .before .before .before .before .before .args in
+    puts-one (a .buffer .now) (a .at) (a .width) (a .value) (c .before .before .write-field .ensures)
+
+pub put-spec : {M : Type 1} → statement M
+put-spec = tie.close (tie.spec write-field-requires add-result same-length returns)
