@@ -1,0 +1,12 @@
+-- The answer beside the tables after certificate n.
+use Prim.Native.Nat.{ℕ}
+use mathlib.Core.Bool.{Bool}
+use mathlib.Core.List.{List}
+use Rattle.rules.specs.declared.Answer.{Answer as StoredAnswer}
+use Rattle.rules.specs.Numbers as Numbers
+use Rattle.rules.specs.Sets.{pick}
+
+-- verdict 10 at certificate n where it fails, else 0
+unfoldable pub ended : Bool → ℕ → List ℕ → StoredAnswer
+unfolding pick
+ended fails n counts = record { number = pick fails Numbers.user-empty Numbers.valid; place = pick fails n 0; counts = counts }

@@ -1,0 +1,52 @@
+// The judge and the sheet's codec for C and Rust: numbers and slices alone.
+ghost use mathlib.Core.Path.{_≡_};
+ghost use Rattle.judge.specs.Face.{Judged, sheet-exported, Rewritten, sheet-rewritten};
+use crate::judge_sheet;
+use rules::DEPTHS;
+use rules::SHEET_BYTES;
+use rules::TABLE;
+
+// The judge on a sheet: the number and 256 times the place. The counts go to the first eleven places of `counts`.
+// 7 where a table has fewer than 304 places or `counts` fewer than eleven: then nothing is written.
+#[no_mangle]
+pub extern "C" fn skandrulo_judge_sheet(
+    sheet: &[u8],
+    authority: &mut [u16],
+    user: &mut [u16],
+    counts: &mut [u16],
+) -> u32
+    ensures { λ r. ⌜ _≡_ {A = Judged} (record { result = r; authority = now (authority .exit); user = now (user .exit); counts = now (counts .exit) }) (sheet-exported (now (sheet .entry)) (now (authority .entry)) (now (user .entry)) (now (counts .entry))) ⌝ }
+{
+    if authority.len() < TABLE {
+        return 7;
+    }
+    if user.len() < TABLE {
+        return 7;
+    }
+    if counts.len() < DEPTHS {
+        return 7;
+    }
+    let answer = judge_sheet(sheet, authority, user);
+    let found = answer.counts;
+    sets::copy(counts, 0, &found);
+    (answer.number as u32) + 256 * (answer.place as u32)
+}
+
+// Reads a sheet and writes its path again: the refusal, or 256 times the sheet's length with the sheet first in the buffer.
+// 7 where the buffer has fewer than 1,044 bytes. After a refusal nothing is written.
+#[no_mangle]
+pub extern "C" fn skandrulo_rewrite_sheet(sheet: &[u8], buffer: &mut [u8]) -> u32
+    ensures { λ r. ⌜ _≡_ {A = Rewritten} (record { result = r; buffer = now (buffer .exit) }) (sheet-rewritten (now (sheet .entry)) (now (buffer .entry))) ⌝ }
+{
+    if buffer.len() < SHEET_BYTES {
+        return 7;
+    }
+    let reading = reader::read(sheet);
+    let number = reading.number;
+    if number != 0 {
+        return number as u32;
+    }
+    let path = reading.path;
+    let written = writer::write(path, buffer);
+    256 * (written.length as u32)
+}

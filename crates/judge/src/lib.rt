@@ -1,0 +1,65 @@
+// The policy judge: on sheets, and on paths handed over decoded. Whatever comes in, it answers one of document 01's numbers.
+mod c;
+
+ghost use mathlib.Core.Path.{_≡_};
+ghost use Prim.Native.Nat.{ℕ, _≤_};
+ghost use Rattle.rules.specs.Graph as Graph;
+ghost use Rattle.rules.specs.Tree as Tree;
+ghost use Rattle.rules.specs.Numbers as Numbers;
+ghost use Rattle.rules.specs.Paths.{Path as RulesPath};
+ghost use Rattle.rules.specs.Layout.{path-of};
+ghost use Rattle.rules.specs.Sheet.{read-sheet, read};
+ghost use Rattle.rules.specs.Judge.{outcome, sheet-judged, path-judged, Bounded};
+ghost use Rattle.judge.specs.Face.{refused-answer};
+pub use c::skandrulo_judge_sheet;
+pub use c::skandrulo_rewrite_sheet;
+use rules::Answer;
+use rules::DEPTHS;
+use rules::Path;
+use rules::TABLE;
+
+// A refusal: place 0 and no counts.
+fn refused(number: u8) -> Answer
+    ensures { λ r. ⌜ r ≡ refused-answer number ⌝ }
+{
+    Answer {
+        number,
+        place: 0,
+        counts: [0; DEPTHS],
+    }
+}
+
+// The judge on a sheet.
+// Demand 1: the answer is one of the numbers, and each refusal is given in its case alone, as the graph's equation says.
+// Demand 2: number, place, counts and both tables are those of RFC 9618's graph.
+// Demand 3: they are those of RFC 5280's tree too, and the counts keep the bound.
+pub fn judge_sheet(sheet: &[u8], authority: &mut [u16], user: &mut [u16]) -> Answer
+    ensures demand_1 { λ r. ⌜ r .number ≤ Numbers.user-empty ⌝ }
+    ensures demand_2 { λ r. ⌜ outcome r (now (authority .exit)) (now (user .exit)) ≡ sheet-judged Graph.judged (now (sheet .entry)) (now (authority .entry)) (now (user .entry)) ⌝ }
+    ensures demand_3 { λ r. ⌜ outcome r (now (authority .exit)) (now (user .exit)) ≡ sheet-judged Tree.judged (now (sheet .entry)) (now (authority .entry)) (now (user .entry)) ⌝ }
+    ensures demand_3_bound { λ r. ⌜ ((p : RulesPath) (at : ℕ) → read-sheet (now (sheet .entry)) ≡ read p at → Bounded (r .counts) p) ⌝ }
+{
+    if authority.len() < TABLE {
+        return refused(7);
+    }
+    if user.len() < TABLE {
+        return refused(7);
+    }
+    let reading = reader::read(sheet);
+    let number = reading.number;
+    if number != 0 {
+        return refused(number);
+    }
+    let path = reading.path;
+    graph::judge(path, authority, user)
+}
+
+// The judge on a path handed over decoded, with the same promises; its refusals are 7, then 3, 4 and 5.
+pub fn judge_path(path: Path, authority: &mut [u16], user: &mut [u16]) -> Answer
+    ensures demand_1 { λ r. ⌜ r .number ≤ Numbers.user-empty ⌝ }
+    ensures demand_2 { λ r. ⌜ outcome r (now (authority .exit)) (now (user .exit)) ≡ path-judged Graph.judged path (now (authority .entry)) (now (user .entry)) ⌝ }
+    ensures demand_3 { λ r. ⌜ outcome r (now (authority .exit)) (now (user .exit)) ≡ path-judged Tree.judged path (now (authority .entry)) (now (user .entry)) ⌝ }
+    ensures demand_3_bound { λ r. ⌜ Bounded (r .counts) (path-of path) ⌝ }
+{
+    graph::judge_path(path, authority, user)
+}
