@@ -1,3 +1,4 @@
+// The counters of RFC 5280 6.1.2 (d) to (f): explicit_policy, policy_mapping and inhibit_anyPolicy.
 ghost use mathlib.Core.Path.{_≡_};
 ghost use Prim.Native.Nat.{suc, pred, _≤_};
 ghost use lib.ListN.{length};
@@ -6,8 +7,6 @@ ghost use Rattle.rules.specs.Sets.{pick};
 ghost use Rattle.rules.specs.Counters as rule;
 ghost use Rattle.rules.specs.Layout.{certificate-of, path-of};
 ghost use Rattle.counters.specs.Counted.{counted};
-
-// The counters of RFC 5280 6.1.2 (d) to (f): explicit_policy, policy_mapping and inhibit_anyPolicy.
 use rules::Certificate;
 use rules::Path;
 use rules::Skip;

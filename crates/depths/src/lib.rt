@@ -1,3 +1,4 @@
+// One depth of the graph: its policies, and how they follow from the depth above.
 ghost use mathlib.Core.Bool.{not, _||_};
 ghost use mathlib.Core.List.{[]};
 ghost use mathlib.Core.Path.{_≡_};
@@ -12,14 +13,10 @@ ghost use Rattle.levels.proofs.Levels as graph;
 ghost use Rattle.sets.specs.Set.{Ascends, stored, picked};
 ghost use Rattle.counters.specs.Counted.{counted};
 ghost use Rattle.depths.specs.Depth.{Held, Sound, set-of, level-of, stored-level, grown, mapped-by, expected-by};
-
-// One depth of the graph: its policies, and how they follow from the depth above.
 use counters::Counters;
+use rules::ANY;
 use rules::Certificate;
 use sets::Set;
-
-// The policy that stands for every other.
-pub const ANY: u16 = 1;
 
 // The policies that some node of the depth above expects, and those whose only parent is the anyPolicy node.
 pub struct Level {

@@ -2,7 +2,10 @@
 use rules::CERTIFICATES;
 use rules::Certificate;
 use rules::LISTED;
+use rules::POLICY_REPEATS;
+use rules::POLICY_ZERO;
 use rules::Path;
+use rules::WRONG_COUNT;
 ghost use mathlib.Core.Path.{_≡_};
 ghost use mathlib.Core.List.{[]};
 ghost use Prim.Native.Nat.{_≤_};
@@ -11,12 +14,6 @@ ghost use Rattle.rules.specs.Limits as Limits;
 ghost use Rattle.rules.specs.Sets.{pick, _∈_};
 ghost use Rattle.rules.specs.Layout.{pairs};
 ghost use Rattle.rules.specs.Faults.{_or-else_, count-fault, user-fault, listed-fault, policies-fault, mappings-fault, certificate-fault, path-fault};
-
-const WRONG_COUNT: u8 = 3;
-
-const POLICY_ZERO: u8 = 4;
-
-const POLICY_REPEATS: u8 = 5;
 
 // Whether `policy` is among the first `before` values.
 fn seen(values: &[u16], before: usize, policy: u16) -> bool

@@ -1,3 +1,4 @@
+// The judge on decoded paths, by the policy graph of RFC 9618.
 ghost use mathlib.Core.Bool.{_&&_};
 ghost use mathlib.Core.Path.{_≡_};
 ghost use Prim.Native.Nat.{_-_, _≤_};
@@ -15,29 +16,21 @@ ghost use Rattle.depths.specs.Depth.{Held, set-of, level-of};
 ghost use Rattle.prune.specs.Children.{Deepest, Walked};
 ghost use Rattle.walk.specs.Walking.{Legal, concluded-of};
 ghost use Rattle.graph.specs.Ending.{ended};
-
-// The judge on decoded paths, by the policy graph of RFC 9618.
-use depths::ANY;
 use depths::lists_any;
 use depths::members;
 use faults::path_fault;
 use prune::prune;
+use rules::ANY;
 use rules::Answer;
 use rules::DEPTHS;
 use rules::Path;
 use rules::TABLE;
+use rules::TABLE_SHORT;
+use rules::USER_EMPTY;
+use rules::VALID;
 use sets::Set;
 use walk::Reached;
 use walk::walk;
-
-// "path valid for policy"
-const VALID: u8 = 0;
-
-// "a lent table is too short"
-const TABLE_SHORT: u8 = 7;
-
-// "at the end, explicit_policy is 0 and the user set is empty"
-const USER_EMPTY: u8 = 10;
 
 // "User set: the authority set if the user list is any-policy; otherwise its members on the user list, and the whole user list if the
 // authority set has anyPolicy."

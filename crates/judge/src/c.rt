@@ -6,6 +6,9 @@ use rules::DEPTHS;
 use rules::SHEET_BYTES;
 use rules::TABLE;
 
+// "a lent table is too short"
+const SHORT: u32 = rules::TABLE_SHORT as u32;
+
 // The judge on a sheet: the number and 256 times the place. The counts go to the first eleven places of `counts`.
 // 7 where a table has fewer than 304 places or `counts` fewer than eleven: then nothing is written.
 #[no_mangle]
@@ -18,13 +21,13 @@ pub extern "C" fn skandrulo_judge_sheet(
     ensures { λ r. ⌜ _≡_ {A = Judged} (record { result = r; authority = now (authority .exit); user = now (user .exit); counts = now (counts .exit) }) (sheet-exported (now (sheet .entry)) (now (authority .entry)) (now (user .entry)) (now (counts .entry))) ⌝ }
 {
     if authority.len() < TABLE {
-        return 7;
+        return SHORT;
     }
     if user.len() < TABLE {
-        return 7;
+        return SHORT;
     }
     if counts.len() < DEPTHS {
-        return 7;
+        return SHORT;
     }
     let answer = judge_sheet(sheet, authority, user);
     let found = answer.counts;
@@ -39,7 +42,7 @@ pub extern "C" fn skandrulo_rewrite_sheet(sheet: &[u8], buffer: &mut [u8]) -> u3
     ensures { λ r. ⌜ _≡_ {A = Rewritten} (record { result = r; buffer = now (buffer .exit) }) (sheet-rewritten (now (sheet .entry)) (now (buffer .entry))) ⌝ }
 {
     if buffer.len() < SHEET_BYTES {
-        return 7;
+        return SHORT;
     }
     let reading = reader::read(sheet);
     let number = reading.number;

@@ -17,6 +17,7 @@ use rules::Answer;
 use rules::DEPTHS;
 use rules::Path;
 use rules::TABLE;
+use rules::TABLE_SHORT;
 
 // A refusal: place 0 and no counts.
 fn refused(number: u8) -> Answer
@@ -40,10 +41,10 @@ pub fn judge_sheet(sheet: &[u8], authority: &mut [u16], user: &mut [u16]) -> Ans
     ensures demand_3_bound { λ r. ⌜ ((p : RulesPath) (at : ℕ) → read-sheet (now (sheet .entry)) ≡ read p at → Bounded (r .counts) p) ⌝ }
 {
     if authority.len() < TABLE {
-        return refused(7);
+        return refused(TABLE_SHORT);
     }
     if user.len() < TABLE {
-        return refused(7);
+        return refused(TABLE_SHORT);
     }
     let reading = reader::read(sheet);
     let number = reading.number;

@@ -1,3 +1,4 @@
+// The depths after certificate n: nodes without children go, from the deepest up, and what is left is counted.
 ghost use mathlib.Core.Bool.{_&&_};
 ghost use mathlib.Core.List.{[], _∷_, _++_};
 ghost use mathlib.Core.Path.{_≡_};
@@ -11,11 +12,9 @@ ghost use Rattle.levels.proofs.Levels as graph;
 ghost use Rattle.sets.specs.Set.{Ascends, stored};
 ghost use Rattle.depths.specs.Depth.{Held, Sound, set-of, level-of, stored-level, steps-of};
 ghost use Rattle.prune.specs.Children.{child-by, standing, left, authority-left, Deepest, Walked};
-
-// The depths after certificate n: nodes without children go, from the deepest up, and what is left is counted.
-use depths::ANY;
 use depths::Level;
 use depths::members;
+use rules::ANY;
 use rules::CERTIFICATES;
 use rules::Certificate;
 use rules::DEPTHS;

@@ -1,3 +1,4 @@
+// Reads the sheet of document 01: any bytes, and the path that they hold or the number of the first refusal.
 ghost use mathlib.Core.Path.{_≡_};
 ghost use mathlib.Core.List.{[]};
 ghost use Prim.Native.Nat.{_^_, _≤_, _<_};
@@ -12,24 +13,15 @@ use bitfield::Field;
 use rules::CERTIFICATES;
 use rules::Certificate;
 use rules::LISTED;
+use rules::NOT_AT_END;
+use rules::POLICY_REPEATS;
+use rules::POLICY_ZERO;
 use rules::Path;
 use rules::Reading;
+use rules::SHEET_ENDS;
 use rules::Skip;
-
-// Reads the sheet of document 01: any bytes, and the path that they hold or the number of the first refusal.
-
-// The refusals of document 01's table.
-const SHEET_ENDS: u8 = 1;
-
-const WRONG_EDITION: u8 = 2;
-
-const WRONG_COUNT: u8 = 3;
-
-const POLICY_ZERO: u8 = 4;
-
-const POLICY_REPEATS: u8 = 5;
-
-const NOT_AT_END: u8 = 6;
+use rules::WRONG_COUNT;
+use rules::WRONG_EDITION;
 
 // The widths of the fields that have more than a bit, and the largest policy.
 const HEAD_BITS: usize = 4;

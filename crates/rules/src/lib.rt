@@ -1,7 +1,6 @@
+// The data of document 01 in the code's own types, and its limits.
 ghost use mathlib.Core.Path.{_≡_};
 ghost use Rattle.rules.specs.Limits as Limits;
-
-// The data of document 01 in the code's own types, and its limits.
 
 // "A path has n certificates, 1 to 10."
 pub const CERTIFICATES: usize = 10;
@@ -25,6 +24,32 @@ pub const SHEET_BITS: usize = 4
 
 // The bytes of the longest sheet.
 pub const SHEET_BYTES: usize = (SHEET_BITS + 7) / 8;
+
+// The policy that stands for every other.
+pub const ANY: u16 = 1;
+
+// The numbers of document 01's table, under the names of specs/Numbers. 1 to 7 are refusals, the others verdicts.
+pub const VALID: u8 = 0;
+
+pub const SHEET_ENDS: u8 = 1;
+
+pub const WRONG_EDITION: u8 = 2;
+
+pub const WRONG_COUNT: u8 = 3;
+
+pub const POLICY_ZERO: u8 = 4;
+
+pub const POLICY_REPEATS: u8 = 5;
+
+pub const NOT_AT_END: u8 = 6;
+
+pub const TABLE_SHORT: u8 = 7;
+
+pub const NO_GRAPH: u8 = 8;
+
+pub const ANY_MAPPED: u8 = 9;
+
+pub const USER_EMPTY: u8 = 10;
 
 // A skip value: absent, or a number of certificates. Absent is not zero.
 pub enum Skip {

@@ -1,4 +1,5 @@
 // Sets of policies as ascending arrays.
+use rules::ANY;
 use rules::TABLE;
 ghost use mathlib.Core.Path.{_≡_};
 ghost use mathlib.Core.Bool.{not};
@@ -13,9 +14,6 @@ ghost use Rattle.rules.specs.Sets.{_∈_, select, ascending, insert};
 ghost use Rattle.rules.specs.Layout.{placed};
 ghost use Rattle.levels.proofs.Levels.{union, within, without};
 ghost use Rattle.sets.specs.Set.{Ascends, stored, picked};
-
-// The policy that stands for every other.
-pub const ANY: u16 = 1;
 
 // A set: its members in the first `len` places, ascending with no repeats, and zero in the others.
 pub struct Set {

@@ -1,3 +1,4 @@
+// The walk from certificate to certificate: each depth after the mappings, or the first failed verdict.
 ghost use mathlib.Core.Bool.{_&&_};
 ghost use mathlib.Core.Path.{_≡_};
 ghost use Prim.Native.Nat.{_+_, _-_, _≤_};
@@ -8,12 +9,9 @@ ghost use Rattle.levels.proofs.Levels as graph;
 ghost use Rattle.depths.specs.Depth.{Sound, level-of};
 ghost use Rattle.prune.specs.Children.{Deepest, Walked};
 ghost use Rattle.walk.specs.Walking.{next-of, fault-of, Legal, answer-of};
-
-// The walk from certificate to certificate: each depth after the mappings, or the first failed verdict.
 use counters::Counters;
 use counters::explicit_at_end;
 use counters::start;
-use depths::ANY;
 use depths::Level;
 use depths::expected;
 use depths::mapped;
@@ -21,16 +19,13 @@ use depths::maps_any;
 use depths::members;
 use depths::new_level;
 use depths::policies;
+use rules::ANY;
+use rules::ANY_MAPPED;
 use rules::CERTIFICATES;
 use rules::Certificate;
+use rules::NO_GRAPH;
 use rules::Path;
 use sets::Set;
-
-// "after certificate i's policies, explicit_policy is 0 and there is no graph"
-const NO_GRAPH: u8 = 8;
-
-// "a mapping of certificate i names anyPolicy"
-const ANY_MAPPED: u8 = 9;
 
 // A depth after the mappings, what its nodes expect, and whether anyPolicy stands there.
 pub struct Next {

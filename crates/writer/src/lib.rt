@@ -5,6 +5,7 @@ use rules::Certificate;
 use rules::Path;
 use rules::SHEET_BYTES;
 use rules::Skip;
+use rules::TABLE_SHORT;
 use rules::Writing;
 ghost use mathlib.Core.Path.{_≡_};
 ghost use mathlib.Core.List.{[], _∷_};
@@ -179,8 +180,6 @@ fn write_path(p: Path, buffer: &mut [u8]) -> usize
     }
     next
 }
-
-const TABLE_SHORT: u8 = 7;
 
 // Writes the path's sheet into the buffer's first bytes, or refuses it by a number and leaves the buffer as it was.
 pub fn write(p: Path, buffer: &mut [u8]) -> Writing

@@ -1,24 +1,18 @@
+-- `judge_path` meets the three demands: the engine gives the outcome of the graph, from which the other clauses follow (Decoded).
 use Rattle.judge.proofs.Decoded.{promised}
 use borrow.Author.Needs.{needs}
 use Rattle.judge.proofs.judge_path.Statement.{statement}
 use Rattle.judge.proofs.judge_path.Tie as tie
-use Rattle.judge.proofs.judge_path.Reads as reads
-use Rattle.judge.proofs.judge_path.Lts as lts
-use Rattle.graph.proofs.judge_path.Reads as judge-path-reads
 
--- src/lib.rt:66:5
 judge-path-requires : tie.Need-judge-path-requires
 judge-path-requires c κs = search needs
 
--- src/lib.rt:60:1
 same-length : tie.Need-same-length
 same-length c = search needs
 
--- src/lib.rt:60:1
 same-length-2 : tie.Need-same-length-2
 same-length-2 c = search needs
 
--- src/lib.rt:60:1
 returns : tie.Need-returns
 returns c = promised _ _ _ _ _ _ (c .before .before .before .before .judge-path .ensures)
 

@@ -1,11 +1,9 @@
+-- `counts` reads only within the list. The invariant: the place is at most the length.
 use Prim.Native.Nat.{_≤_, _-_}
 use lib.ListN.{length}
 use borrow.Author.Needs.{needs}
 use Rattle.path_check.proofs.counts.Statement.{statement}
 use Rattle.path_check.proofs.counts.Tie as tie
-use Rattle.path_check.proofs.counts.Reads as reads
-use Rattle.path_check.proofs.counts.Lts as lts
-use Rattle.path_check.proofs.spaced.Reads as spaced-reads
 
 abbrev Inv-loop : tie.InvT-loop
 Inv-loop list i₀ i = i ≤ length list
@@ -13,35 +11,27 @@ Inv-loop list i₀ i = i ≤ length list
 abbrev μ-loop : tie.MeasureT-loop
 μ-loop list i₀ i = length list - i
 
--- src/main.rt:28:5
 loop-holds : tie.Need-loop-holds Inv-loop μ-loop
 loop-holds c = search needs
 
--- src/main.rt:29:16
 mul-spaced : tie.Need-mul-spaced Inv-loop μ-loop
 mul-spaced c = search needs
 
--- src/main.rt:29:16
 shared-slice-read-spaced : tie.Need-shared-slice-read-spaced Inv-loop μ-loop
 shared-slice-read-spaced c = search needs
 
--- src/main.rt:29:9
 spaced-requires : tie.Need-spaced-requires Inv-loop μ-loop
 spaced-requires c κs = search needs
 
--- src/main.rt:30:9
 add-i : tie.Need-add-i Inv-loop μ-loop
 add-i c = search needs
 
--- src/main.rt:28:5
 loop-less : tie.Need-loop-less Inv-loop μ-loop
 loop-less c = search needs
 
--- src/main.rt:28:5
 loop-again : tie.Need-loop-again Inv-loop μ-loop
 loop-again c = search needs
 
--- src/main.rt:26:1
 returns : tie.Need-returns Inv-loop μ-loop
 returns c = search needs
 

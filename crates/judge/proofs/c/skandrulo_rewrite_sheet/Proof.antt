@@ -1,46 +1,34 @@
+-- `skandrulo_rewrite_sheet` gives the sheet back (Rewrite).
 use native.Mathlib.Omega.{arith}
 use Rattle.judge.proofs.Rewrite.{short, refuses, rewrites, length-fits}
 use borrow.Author.Needs.{needs}
 use Rattle.judge.proofs.c.skandrulo_rewrite_sheet.Statement.{statement}
 use Rattle.judge.proofs.c.skandrulo_rewrite_sheet.Tie as tie
-use Rattle.judge.proofs.c.skandrulo_rewrite_sheet.Reads as reads
-use Rattle.judge.proofs.c.skandrulo_rewrite_sheet.Lts as lts
-use Rattle.reader.proofs.read.Reads as read-reads
-use Rattle.writer.proofs.write.Reads as write-reads
 
--- src/c.rt:48:9
 returns : tie.Need-returns
 returns c = short _ _ (c .if1 .taken)
 
--- src/c.rt:50:9
 read-requires : tie.Need-read-requires
 read-requires c κs = search needs
 
--- src/c.rt:53:16
 cast-result : tie.Need-cast-result
 cast-result c = search needs
 
--- src/c.rt:53:9
 returns-2 : tie.Need-returns-2
 returns-2 c = refuses _ _ _ (c .before .read .ensures) (c .if2 .taken) (c .before .before .if1 .left)
 
--- src/c.rt:56:9
 write-requires : tie.Need-write-requires
 write-requires c κs = search needs
 
--- src/c.rt:57:12
 cast-result-2 : tie.Need-cast-result-2
 cast-result-2 c = omega (arith, length-fits _ _ _ _ _ (λ i. c .before .before .before .before .before .before .before .before .before .before .shared-slice-known .given i .fits) (c .before .before .before .before .before .before .before .read .ensures) (c .before .before .before .before .before .before .if2 .left) (c .before .before .before .write .ensures) (c .before .before .before .before .before .before .before .before .if1 .left))
 
--- src/c.rt:57:5
 mul-result : tie.Need-mul-result
 mul-result c = omega (arith, length-fits _ _ _ _ _ (λ i. c .before .before .before .before .before .before .before .before .before .before .shared-slice-known .given i .fits) (c .before .before .before .before .before .before .before .read .ensures) (c .before .before .before .before .before .before .if2 .left) (c .before .before .before .write .ensures) (c .before .before .before .before .before .before .before .before .if1 .left))
 
--- src/c.rt:43:1
 same-length : tie.Need-same-length
 same-length c = search needs
 
--- src/c.rt:43:1
 returns-3 : tie.Need-returns-3
 returns-3 c = rewrites _ _ _ _ _ (λ i. c .before .before .before .before .before .before .before .before .before .before .shared-slice-known .given i .fits) (c .before .before .before .before .before .before .before .read .ensures) (c .before .before .before .before .before .before .if2 .left) (c .before .before .before .write .ensures) (c .before .before .before .before .before .before .before .before .if1 .left)
 
