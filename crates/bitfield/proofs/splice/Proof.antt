@@ -7,9 +7,6 @@ use Rattle.bitfield.proofs.Put.{spliced, shifted-one, first-fits, splic
 use borrow.Author.Needs.{needs}
 use Rattle.bitfield.proofs.splice.Statement.{statement}
 use Rattle.bitfield.proofs.splice.Tie as tie
-use Rattle.bitfield.proofs.splice.Reads as reads
-use Rattle.bitfield.proofs.splice.Lts as lts
-use Rattle.bitfield.proofs.wide.Reads as wide-reads
 
 wide-requires : tie.Need-wide-requires
 wide-requires c κs = search needs

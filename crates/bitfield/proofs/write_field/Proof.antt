@@ -9,9 +9,6 @@ use Rattle.rules.specs.Bits.{put-field}
 use Rattle.bitfield.proofs.Put.{Bytes, length-put, put-none, put-split}
 use Rattle.bitfield.proofs.write_field.Statement.{statement}
 use Rattle.bitfield.proofs.write_field.Tie as tie
-use Rattle.bitfield.proofs.write_field.Reads as reads
-use Rattle.bitfield.proofs.write_field.Lts as lts
-use Rattle.bitfield.proofs.write_part.Reads as write-part-reads
 
 abbrev Inv-loop : tie.InvT-loop
 Inv-loop s₀ at width value next₀ left₀ s next left =

@@ -7,9 +7,6 @@ use lib.ListN.{set}
 use Rattle.bitfield.proofs.Put.{put-part}
 use Rattle.bitfield.proofs.write_part.Statement.{statement}
 use Rattle.bitfield.proofs.write_part.Tie as tie
-use Rattle.bitfield.proofs.write_part.Reads as reads
-use Rattle.bitfield.proofs.write_part.Lts as lts
-use Rattle.bitfield.proofs.splice.Reads as splice-reads
 
 slice-read-splice : tie.Need-slice-read-splice
 slice-read-splice c = search needs

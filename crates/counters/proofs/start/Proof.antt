@@ -1,3 +1,4 @@
+-- `start` meets its contract: each counter by its flag; the path has n certificates, since the array has room for n.
 use Rattle.rules.specs.Limits as Limits
 use mathlib.Core.Path.{_≡_, sym, _∙_, ap}
 use lib.ListN.{length, length-map, take}
@@ -9,23 +10,16 @@ use mathlib.Core.Path.{_≡_}
 use borrow.Author.Needs.{needs}
 use Rattle.counters.proofs.start.Statement.{statement}
 use Rattle.counters.proofs.start.Tie as tie
-use Rattle.counters.proofs.start.Reads as reads
-use Rattle.counters.proofs.start.Lts as lts
-use Rattle.counters.proofs.unless.Reads as unless-reads
 
--- src/lib.rt:33:9
 unless-requires : tie.Need-unless-requires
 unless-requires c κs = search needs
 
--- src/lib.rt:34:9
 unless-requires-2 : tie.Need-unless-requires-2
 unless-requires-2 c κs = search needs
 
--- src/lib.rt:35:9
 unless-requires-3 : tie.Need-unless-requires-3
 unless-requires-3 c κs = search needs
 
--- src/lib.rt:28:1
 returns : tie.Need-returns
 unfolding at-start path-of
 returns c =

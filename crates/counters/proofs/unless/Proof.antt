@@ -1,21 +1,17 @@
+-- `unless` meets its contract: by cases on the flag.
 use Rattle.rules.specs.Sets.{pick}
 use native.Mathlib.Numerals.{add-one}
 use borrow.Author.Needs.{needs}
 use Rattle.counters.proofs.unless.Statement.{statement}
 use Rattle.counters.proofs.unless.Tie as tie
-use Rattle.counters.proofs.unless.Reads as reads
-use Rattle.counters.proofs.unless.Lts as lts
 
--- src/lib.rt:24:26
 add-result : tie.Need-add-result
 add-result c = search needs
 
--- src/lib.rt:20:1
 returns : tie.Need-returns
 unfolding pick
 returns c = simp (c .if1 .taken)
 
--- src/lib.rt:20:1
 returns-2 : tie.Need-returns-2
 unfolding pick
 returns-2 c = simp (c .if1 .left, add-one)

@@ -1,30 +1,24 @@
+-- `zeroed` meets its contract: by cases on the skip value.
 use borrow.Author.Tests.{eq-eqb, ne-eqb}
 use Rattle.rules.specs.Counters.{zeroed}
 use borrow.Author.Needs.{needs}
 use Rattle.counters.proofs.zeroed.Statement.{statement}
 use Rattle.counters.proofs.zeroed.Tie as tie
-use Rattle.counters.proofs.zeroed.Reads as reads
-use Rattle.counters.proofs.zeroed.Lts as lts
 
--- src/lib.rt:82:25
 enum-told : tie.Need-enum-told
 enum-told c = search needs
 
--- src/lib.rt:83:28
 enum-known-skip : tie.Need-enum-known-skip
 enum-known-skip c = search needs
 
--- src/lib.rt:78:1
 returns : tie.Need-returns
 unfolding zeroed
 returns c = simp (c .enum-told .given .1)
 
--- src/lib.rt:78:1
 returns-2 : tie.Need-returns-2
 unfolding zeroed
 returns-2 c = simp (c .before .before .skip .given .1, eq-eqb _ _ (c .if1 .taken))
 
--- src/lib.rt:78:1
 returns-3 : tie.Need-returns-3
 unfolding zeroed
 returns-3 c = simp (c .before .before .skip .given .1, ne-eqb _ _ (c .if1 .left))

@@ -1,3 +1,4 @@
+-- `expected` meets its contract: the nodes without the issuers, and the subjects of the issuers that have a node.
 use denote.Ref.{now}
 use Prim.Native.Nat.{_≤_, _+_}
 use Rattle.rules.specs.Limits as Limits
@@ -12,12 +13,6 @@ use Rattle.depths.proofs.Laws.{stored-fits, expected-by-is}
 use borrow.Author.Needs.{needs}
 use Rattle.depths.proofs.expected.Statement.{statement}
 use Rattle.depths.proofs.expected.Tie as tie
-use Rattle.depths.proofs.expected.Reads as reads
-use Rattle.depths.proofs.expected.Lts as lts
-use Rattle.depths.proofs.members.Reads as members-reads
-use Rattle.sets.proofs.picked.Reads as picked-reads
-use Rattle.sets.proofs.union.Reads as union-reads
-use Rattle.sets.proofs.without.Reads as without-reads
 
 plain : (c : tie.After-members2) → now (c .before .before .before .before .members .result) ≡ without (now (c .before .before .before .before .before .before .before .before .before .before .before .before .before .before .args .nodes)) (now (c .before .before .before .before .before .before .before .before .before .before .before .before .before .before .args .set))
 plain c = c .before .before .before .before .members .ensures ∙ in-use _ (c .before .before .before .before .before .before .before .before .before .without .ensures)
@@ -25,23 +20,18 @@ plain c = c .before .before .before .before .members .ensures ∙ in-use _ (c .b
 targets : (c : tie.After-members2) → now (c .members2 .result) ≡ ascending (picked (now (c .before .before .before .before .before .before .before .before .before .before .before .before .before .before .args .issuers)) (now (c .before .before .before .before .before .before .before .before .before .before .before .before .before .before .args .subjects)) (now (c .before .before .before .before .before .before .before .before .before .before .before .before .before .before .args .nodes)))
 targets c = c .members2 .ensures ∙ in-use _ (c .before .before .before .before .before .before .before .before .picked .ensures)
 
--- src/lib.rt:195:17
 without-requires : tie.Need-without-requires
 without-requires c κs = search needs
 
--- src/lib.rt:197:19
 picked-requires : tie.Need-picked-requires
 picked-requires c κs = search needs
 
--- src/lib.rt:199:17
 members-requires : tie.Need-members-requires
 members-requires c κs = stored-fits _ (c .before .before .before .before .without .ensures)
 
--- src/lib.rt:199:51
 members-requires-2 : tie.Need-members-requires-2
 members-requires-2 c κs = stored-fits _ (c .before .before .before .before .before .before .before .picked .ensures)
 
--- src/lib.rt:199:5
 union-requires : tie.Need-union-requires
 union-requires c κs =
     let issuers = now (c .before .before .before .before .before .before .before .before .before .before .before .before .before .before .args .issuers) in
@@ -54,7 +44,6 @@ union-requires c κs =
       ),
     )
 
--- src/lib.rt:187:1
 returns : tie.Need-returns
 returns c = c .union .ensures ∙ ap₂ (λ xs ys. stored (union xs ys)) (plain (c .before)) (targets (c .before)) ∙ ap stored (sym (expected-by-is _ _ _ _))
 

@@ -1,3 +1,4 @@
+-- `grown` meets its contract: where anyPolicy stands, the issuers with no node are added.
 use mathlib.Core.Path.{_≡_, refl, sym, ap, ap₂, _∙_, subst, subst⁻¹}
 use denote.Ref.{now}
 use Prim.Native.Nat.{_≤_, _+_}
@@ -12,12 +13,6 @@ use borrow.Author.Tests.{not-true, not-false}
 use borrow.Author.Needs.{needs}
 use Rattle.depths.proofs.grown.Statement.{statement}
 use Rattle.depths.proofs.grown.Tie as tie
-use Rattle.depths.proofs.grown.Reads as reads
-use Rattle.depths.proofs.grown.Lts as lts
-use Rattle.depths.proofs.members.Reads as members-reads
-use Rattle.sets.proofs.contains.Reads as contains-reads
-use Rattle.sets.proofs.union.Reads as union-reads
-use Rattle.sets.proofs.without.Reads as without-reads
 
 under : (c : tie.After-members) → now (c .members .result) ≡ set-of (c .before .before .before .before .before .before .before .before .args .t3)
 under c = c .members .ensures ∙ set-of-is _
@@ -28,38 +23,30 @@ absent c = c .members2 .ensures ∙ in-use _ (c .before .before .before .before 
 added : (c : tie.After-members3) → now (c .members3 .result) ≡ without (without (now (c .before .before .before .before .before .before .before .before .before .before .before .before .before .before .before .before .before .before .args .issuers)) (now (c .before .before .before .before .before .before .before .before .before .before .before .before .before .before .before .before .before .before .args .inherited))) (set-of (c .before .before .before .before .before .before .before .before .before .before .before .before .before .before .before .before .before .before .args .t3))
 added c = c .members3 .ensures ∙ in-use _ (c .before .before .before .before .without2 .ensures ∙ ap₂ (λ xs ys. stored (without xs ys)) (absent (c .before .before .before .before .before)) (under (c .before .before .before .before .before .before .before .before .before .before)))
 
--- src/lib.rt:137:9
 contains-requires : tie.Need-contains-requires
 contains-requires c κs = search needs
 
--- src/lib.rt:138:9
 returns : tie.Need-returns
 returns c = c .before .before .before .before .pre .1 .1 .0 .same ∙ ap stored (sym (grown-is _ _ _ ∙ pick-no _ _ (sym (c .before .contains .ensures) ∙ not-true _ (c .if1 .taken))))
 
--- src/lib.rt:141:9
 members-requires : tie.Need-members-requires
 members-requires c κs = search needs
 
--- src/lib.rt:142:18
 without-requires : tie.Need-without-requires
 without-requires c κs = search needs
 
--- src/lib.rt:144:31
 members-requires-2 : tie.Need-members-requires-2
 members-requires-2 c κs = stored-fits _ (c .before .before .before .without .ensures)
 
--- src/lib.rt:144:17
 without-requires-2 : tie.Need-without-requires-2
 without-requires-2 c κs = (
   omega (arith, ap length (absent c), length-without (now (c .before .before .before .before .before .before .before .before .before .before .before .before .before .args .issuers)) (now (c .before .before .before .before .before .before .before .before .before .before .before .before .before .args .inherited)), c .before .before .before .before .before .before .before .before .before .before .before .before .before .pre),
   subst⁻¹ Ascends (under (c .before .before .before .before .before)) (c .before .before .before .before .before .before .before .before .before .before .before .before .before .pre .1 .1 .0 .order),
 )
 
--- src/lib.rt:146:24
 members-requires-3 : tie.Need-members-requires-3
 members-requires-3 c κs = stored-fits _ (c .before .before .before .without2 .ensures)
 
--- src/lib.rt:146:5
 union-requires : tie.Need-union-requires
 union-requires c κs =
     let issuers = now (c .before .before .before .before .before .before .before .before .before .before .before .before .before .before .before .before .before .before .args .issuers) in
@@ -72,7 +59,6 @@ union-requires c κs =
       ),
     )
 
--- src/lib.rt:130:1
 returns-2 : tie.Need-returns-2
 returns-2 c =
     c .union .ensures ∙ ap₂ (λ xs ys. stored (union xs ys)) (under (c .before .before .before .before .before .before .before .before .before .before .before)) (added (c .before))

@@ -1,3 +1,4 @@
+-- `inherited` meets its contract: by cases on whether anyPolicy is allowed.
 use denote.Ref.{now}
 use mathlib.Core.Path.{_≡_, refl, sym, ap, ap₂, _∙_, subst, subst⁻¹}
 use Rattle.sets.specs.Set.{Ascends, stored}
@@ -6,26 +7,18 @@ use Rattle.depths.proofs.Laws.{set-of-is, pick-yes, pick-no}
 use borrow.Author.Needs.{needs}
 use Rattle.depths.proofs.inherited.Statement.{statement}
 use Rattle.depths.proofs.inherited.Tie as tie
-use Rattle.depths.proofs.inherited.Reads as reads
-use Rattle.depths.proofs.inherited.Lts as lts
-use Rattle.depths.proofs.members.Reads as members-reads
-use Rattle.sets.proofs.within.Reads as within-reads
 
--- src/lib.rt:93:9
 returns : tie.Need-returns
 returns c = c .before .before .pre .1 .same ∙ ap stored (sym (pick-yes _ _ (c .if1 .taken)))
 
--- src/lib.rt:96:26
 members-requires : tie.Need-members-requires
 members-requires c κs = search needs
 
--- src/lib.rt:96:5
 within-requires : tie.Need-within-requires
 within-requires c κs =
     let s = c .before .before .before .before .before .before in
     (s .pre .0, subst⁻¹ Ascends (c .members .ensures ∙ set-of-is _) (s .pre .1 .order))
 
--- src/lib.rt:87:1
 returns-2 : tie.Need-returns-2
 returns-2 c = c .within .ensures ∙ ap (λ ys. stored (within (now (c .before .before .before .before .before .before .before .args .listed)) ys)) (c .before .members .ensures ∙ set-of-is _) ∙ ap stored (sym (pick-no _ _ (c .before .before .before .before .before .if1 .left)))
 

@@ -1,3 +1,4 @@
+-- `lists_any` meets its contract: the invariant: anyPolicy is in the list if it is in what is left of it.
 use Prim.Native.Nat.{_≤_, _-_}
 use native.Mathlib.Omega.{arith}
 use mathlib.Core.Path.{_≡_, refl, sym, ap, _∙_}
@@ -8,8 +9,6 @@ use Rattle.rules.specs.Paths.{any}
 use Rattle.depths.proofs.Laws.{mem-nil, found-at, not-at}
 use Rattle.depths.proofs.lists_any.Statement.{statement}
 use Rattle.depths.proofs.lists_any.Tie as tie
-use Rattle.depths.proofs.lists_any.Reads as reads
-use Rattle.depths.proofs.lists_any.Lts as lts
 
 abbrev Inv-loop : tie.InvT-loop
 Inv-loop list i₀ i = (i ≤ length list) × (any ∈ list ≡ any ∈ drop i list)
@@ -17,39 +16,31 @@ Inv-loop list i₀ i = (i ≤ length list) × (any ∈ list ≡ any ∈ drop i l
 abbrev μ-loop : tie.MeasureT-loop
 μ-loop list i₀ i = length list - i
 
--- src/lib.rt:42:5
 loop-holds : tie.Need-loop-holds Inv-loop μ-loop
 loop-holds c = (omega arith, refl)
 
--- src/lib.rt:43:12
 mul-if1 : tie.Need-mul-if1 Inv-loop μ-loop
 mul-if1 c = search needs
 
--- src/lib.rt:43:12
 shared-slice-read-if1 : tie.Need-shared-slice-read-if1 Inv-loop μ-loop
 shared-slice-read-if1 c = search needs
 
--- src/lib.rt:44:13
 returns : tie.Need-returns Inv-loop μ-loop
 returns c =
     let l = c .before .before .before in
     sym (l .loop .inv .1 ∙ found-at any _ (l .loop .i) (c .before .before .loop-test .taken) (c .if1 .taken))
 
--- src/lib.rt:46:9
 add-i : tie.Need-add-i Inv-loop μ-loop
 add-i c = search needs
 
--- src/lib.rt:42:5
 loop-less : tie.Need-loop-less Inv-loop μ-loop
 loop-less c = search needs
 
--- src/lib.rt:42:5
 loop-again : tie.Need-loop-again Inv-loop μ-loop
 loop-again c =
     let l = c .before .before .before in
     (omega arith, l .loop .inv .1 ∙ not-at any _ (l .loop .i) (c .before .before .loop-test .taken) (c .if1 .left))
 
--- src/lib.rt:38:1
 returns-2 : tie.Need-returns-2 Inv-loop μ-loop
 returns-2 c =
     sym (c .before .loop .inv .1 ∙ ap (λ xs. any ∈ xs) (drop-of-length-le _ (c .loop-test .left)) ∙ mem-nil any)

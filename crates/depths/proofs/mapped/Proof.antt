@@ -1,3 +1,4 @@
+-- `mapped` meets its contract: by cases on policy_mapping.
 use mathlib.Core.Path.{_≡_, refl, sym, ap, ap₂, _∙_, subst, subst⁻¹}
 use denote.Ref.{now}
 use Prim.Native.Nat.{_≤_, _+_}
@@ -11,11 +12,6 @@ use Rattle.depths.proofs.Laws.{set-of-is, held-length, mapped-none, map
 use borrow.Author.Needs.{needs}
 use Rattle.depths.proofs.mapped.Statement.{statement}
 use Rattle.depths.proofs.mapped.Tie as tie
-use Rattle.depths.proofs.mapped.Reads as reads
-use Rattle.depths.proofs.mapped.Lts as lts
-use Rattle.depths.proofs.grown.Reads as grown-reads
-use Rattle.depths.proofs.members.Reads as members-reads
-use Rattle.sets.proofs.without.Reads as without-reads
 
 left : (c : tie.After-members) → now (c .members .result) ≡ set-of (c .before .before .before .before .before .before .before .before .args .level .inherited)
 left c = c .members .ensures ∙ set-of-is _
@@ -26,31 +22,24 @@ left-under c = c .members2 .ensures ∙ set-of-is _
 kept : (c : tie.After-members3) → now (c .members3 .result) ≡ set-of (c .before .before .before .before .before .before .before .before .args .level .inherited)
 kept c = c .members3 .ensures ∙ set-of-is _
 
--- src/lib.rt:161:34
 members-requires : tie.Need-members-requires
 members-requires c κs = search needs
 
--- src/lib.rt:161:13
 without-requires : tie.Need-without-requires
 without-requires c κs = (omega (arith, ap length (left c), held-length (c .before .before .before .before .before .before .before .before .pre .1 .0 .inherited), c .before .before .before .before .before .before .before .before .pre .1 .0 .inherited .room), c .before .before .before .before .before .before .before .before .pre .0)
 
--- src/lib.rt:162:40
 members-requires-2 : tie.Need-members-requires-2
 members-requires-2 c κs = search needs
 
--- src/lib.rt:162:13
 without-requires-2 : tie.Need-without-requires-2
 without-requires-2 c κs = (omega (arith, ap length (left-under c), held-length (c .before .before .before .before .before .before .before .before .before .before .before .before .before .pre .1 .0 .under-any), c .before .before .before .before .before .before .before .before .before .before .before .before .before .pre .1 .0 .under-any .room), c .before .before .before .before .before .before .before .before .before .before .before .before .before .pre .0)
 
--- src/lib.rt:168:40
 members-requires-3 : tie.Need-members-requires-3
 members-requires-3 c κs = search needs
 
--- src/lib.rt:168:13
 grown-requires : tie.Need-grown-requires
 grown-requires c κs = (c .before .before .before .before .before .before .before .before .pre .0, (subst⁻¹ Ascends (kept c) (c .before .before .before .before .before .before .before .before .pre .1 .0 .inherited .order), (c .before .before .before .before .before .before .before .before .pre .1 .0 .under-any, c .before .before .before .before .before .before .before .before .pre .1 .1)))
 
--- src/lib.rt:150:1
 returns : tie.Need-returns
 returns c =
     let ds = now (c .before .before .before .before .before .before .before .before .before .before .before .before .before .before .args .issuers) in
@@ -60,7 +49,6 @@ returns c =
     ap₂ (λ x y. record { inherited = x; «under_any» = y }) a b
     ∙ sym (ap (λ k. stored-level (mapped-by k ds (set-of (level .inherited)) (set-of (level .«under_any»)))) (c .before .before .before .before .before .before .before .before .before .before .if1 .taken) ∙ mapped-none _ _ _)
 
--- src/lib.rt:150:1
 returns-2 : tie.Need-returns-2
 returns-2 c =
     let ds = now (c .before .before .before .before .before .before .before .before .before .args .issuers) in

@@ -1,3 +1,4 @@
+-- `maps_any` meets its contract: a mapping names anyPolicy if the issuers or the subjects list it.
 use Rattle.rules.proofs.Sets.{or-left}
 use Prim.Native.Nat.{_≤_}
 use native.Mathlib.Omega.{arith}
@@ -10,9 +11,6 @@ use Rattle.depths.proofs.Laws.{maps-any-is}
 use borrow.Author.Needs.{needs}
 use Rattle.depths.proofs.maps_any.Statement.{statement}
 use Rattle.depths.proofs.maps_any.Tie as tie
-use Rattle.depths.proofs.maps_any.Reads as reads
-use Rattle.depths.proofs.maps_any.Lts as lts
-use Rattle.depths.proofs.lists_any.Reads as lists-any-reads
 
 -- the arrays have a place for each mapping
 issuers-fit : (s : tie.Start) → s .args .c .«mapping_count» ≤ length (s .args .c .issuers)
@@ -21,37 +19,29 @@ issuers-fit s = let e : length (s .args .c .issuers) ≡ Limits.listed = simp le
 subjects-fit : (s : tie.Start) → s .args .c .«mapping_count» ≤ length (s .args .c .subjects)
 subjects-fit s = let e : length (s .args .c .subjects) ≡ Limits.listed = simp length-map at (s .good .0 .1 .1 .1 .1 .1 .1 .1 .0 .1 .0 .1) in omega (arith, s .pre)
 
--- src/lib.rt:59:18
 array-share-prefix-issuers : tie.Need-array-share-prefix-issuers
 array-share-prefix-issuers c = issuers-fit (c .before .before)
 
--- src/lib.rt:59:18
 slice-aggregate-lists-any : tie.Need-slice-aggregate-lists-any
 slice-aggregate-lists-any c = sym (length-take-le _ _ (issuers-fit (c .before .before .before)))
 
--- src/lib.rt:59:8
 lists-any-requires : tie.Need-lists-any-requires
 lists-any-requires c κs = search needs
 
--- src/lib.rt:62:19
 array-share-prefix-subjects : tie.Need-array-share-prefix-subjects
 array-share-prefix-subjects c = subjects-fit (c .before .before .before .before .before)
 
--- src/lib.rt:62:19
 slice-aggregate-lists-any-2 : tie.Need-slice-aggregate-lists-any-2
 slice-aggregate-lists-any-2 c = sym (length-take-le _ _ (subjects-fit (c .before .before .before .before .before .before)))
 
--- src/lib.rt:62:9
 lists-any-requires-2 : tie.Need-lists-any-requires-2
 lists-any-requires-2 c κs = search needs
 
--- src/lib.rt:52:1
 returns : tie.Need-returns
 returns c =
     let s = c .before .before .before .before .before in
     sym (maps-any-is (s .args .c) (issuers-fit s) (subjects-fit s) ∙ or-left _ (sym (c .before .lists-any .ensures) ∙ c .if1 .taken))
 
--- src/lib.rt:52:1
 returns-2 : tie.Need-returns-2
 returns-2 c =
     let s = c .before .before .before .before .before .before .before in

@@ -1,3 +1,4 @@
+-- `new_level` meets its contract: the two sets of the new depth.
 use mathlib.Core.List.{[]}
 use mathlib.Core.Path.{_≡_, refl, sym, ap, ap₂, _∙_, subst, subst⁻¹}
 use denote.Ref.{now}
@@ -20,13 +21,6 @@ use Rattle.depths.proofs.Laws.{stored-fits, set-of-is, held-length, new
 use borrow.Author.Needs.{needs}
 use Rattle.depths.proofs.new_level.Statement.{statement}
 use Rattle.depths.proofs.new_level.Tie as tie
-use Rattle.depths.proofs.new_level.Reads as reads
-use Rattle.depths.proofs.new_level.Lts as lts
-use Rattle.depths.proofs.any_allowed.Reads as any-allowed-reads
-use Rattle.depths.proofs.inherited.Reads as inherited-reads
-use Rattle.depths.proofs.members.Reads as members-reads
-use Rattle.depths.proofs.under_any.Reads as under-any-reads
-use Rattle.sets.proofs.of_listed.Reads as of-listed-reads
 
 -- the array has a place for each policy
 policies-fit : (c : tie.Start) → c .args .c .«policy_count» ≤ length (c .args .c .policies)
@@ -46,39 +40,30 @@ names-fit c =
     let listed = take (c .before .before .before .before .before .before .before .args .c .«policy_count») (c .before .before .before .before .before .before .before .args .c .policies) in
     omega (arith, ap length (names c), length-ascending (select (λ p. not (eqb p any)) listed), length-select (λ p. not (eqb p any)) listed, used (c .before .before .before .before .before .before .before), c .before .before .before .before .before .before .before .pre .0)
 
--- src/lib.rt:120:34
 array-share-prefix-policies : tie.Need-array-share-prefix-policies
 array-share-prefix-policies c = policies-fit (c .before)
 
--- src/lib.rt:120:34
 slice-aggregate-of-listed : tie.Need-slice-aggregate-of-listed
 slice-aggregate-of-listed c = sym (length-take-le _ _ (policies-fit (c .before .before)))
 
--- src/lib.rt:120:18
 of-listed-requires : tie.Need-of-listed-requires
 of-listed-requires c κs = omega (arith, used (c .before .before), c .before .before .pre .0)
 
--- src/lib.rt:122:9
 members-requires : tie.Need-members-requires
 members-requires c κs = stored-fits _ (c .before .before .before .of-listed .ensures)
 
--- src/lib.rt:124:31
 any-allowed-requires : tie.Need-any-allowed-requires
 any-allowed-requires c κs = search needs
 
--- src/lib.rt:124:9
 inherited-requires : tie.Need-inherited-requires
 inherited-requires c κs = (names-fit (c .before), c .before .before .before .before .before .before .before .before .pre .1)
 
--- src/lib.rt:125:49
 members-requires-2 : tie.Need-members-requires-2
 members-requires-2 c κs = search needs
 
--- src/lib.rt:125:9
 under-any-requires : tie.Need-under-any-requires
 under-any-requires c κs = (names-fit (c .before .before .before .before .before .before), subst⁻¹ Ascends (wanted c) (c .before .before .before .before .before .before .before .before .before .before .before .before .before .pre .1 .order))
 
--- src/lib.rt:113:1
 returns : tie.Need-returns
 returns c =
     let E = set-of (c .before .before .before .before .before .before .before .before .before .before .before .before .before .before .args .t4) in

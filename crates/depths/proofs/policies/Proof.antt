@@ -1,3 +1,4 @@
+-- `policies` meets its contract: the union of the two sets.
 use mathlib.Core.Path.{_≡_, refl, sym, ap, ap₂, _∙_, subst, subst⁻¹}
 use native.Mathlib.Omega.{arith}
 use lib.ListN.{length}
@@ -7,20 +8,13 @@ use Rattle.depths.proofs.Laws.{set-of-is, held-length, policies-is}
 use borrow.Author.Needs.{needs}
 use Rattle.depths.proofs.policies.Statement.{statement}
 use Rattle.depths.proofs.policies.Tie as tie
-use Rattle.depths.proofs.policies.Reads as reads
-use Rattle.depths.proofs.policies.Lts as lts
-use Rattle.depths.proofs.members.Reads as members-reads
-use Rattle.sets.proofs.union.Reads as union-reads
 
--- src/lib.rt:183:17
 members-requires : tie.Need-members-requires
 members-requires c κs = search needs
 
--- src/lib.rt:183:47
 members-requires-2 : tie.Need-members-requires-2
 members-requires-2 c κs = search needs
 
--- src/lib.rt:183:5
 union-requires : tie.Need-union-requires
 union-requires c κs =
     let s = c .before .before .before .before .before .before .before .before .before .before in
@@ -33,7 +27,6 @@ union-requires c κs =
       ),
     )
 
--- src/lib.rt:174:1
 returns : tie.Need-returns
 returns c =
     let a = c .before .before .before .before .before .members .ensures ∙ set-of-is _ in

@@ -7,10 +7,6 @@ use Rattle.rules.specs.Limits as Limits
 use Rattle.faults.proofs.Laws.{listed-refused, listed-passed}
 use Rattle.faults.proofs.certificate_fault.Statement.{statement}
 use Rattle.faults.proofs.certificate_fault.Tie as tie
-use Rattle.faults.proofs.certificate_fault.Reads as reads
-use Rattle.faults.proofs.certificate_fault.Lts as lts
-use Rattle.faults.proofs.mappings_fault.Reads as mappings-fault-reads
-use Rattle.faults.proofs.policies_fault.Reads as policies-fault-reads
 
 slice-aggregate-policies-fault : tie.Need-slice-aggregate-policies-fault
 slice-aggregate-policies-fault c = search needs

@@ -9,8 +9,6 @@ use Rattle.rules.specs.Faults.{_or-else_, mappings-fault}
 use Rattle.faults.proofs.Laws.{counted-over, counted-within, issuer-zero, subject-zero, pair-some, mappings-none}
 use Rattle.faults.proofs.mappings_fault.Statement.{statement}
 use Rattle.faults.proofs.mappings_fault.Tie as tie
-use Rattle.faults.proofs.mappings_fault.Reads as reads
-use Rattle.faults.proofs.mappings_fault.Lts as lts
 
 abbrev Inv-loop : tie.InvT-loop
 Inv-loop issuers subjects number i₀ i =

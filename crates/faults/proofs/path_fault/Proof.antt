@@ -10,10 +10,6 @@ use Rattle.rules.specs.Faults.{path-fault, certificates-fault}
 use Rattle.faults.proofs.Laws.{n-none, n-over, n-within, n-refused, user-refused, user-passed, certificates-none, certificate-refused, certificate-passed}
 use Rattle.faults.proofs.path_fault.Statement.{statement}
 use Rattle.faults.proofs.path_fault.Tie as tie
-use Rattle.faults.proofs.path_fault.Reads as reads
-use Rattle.faults.proofs.path_fault.Lts as lts
-use Rattle.faults.proofs.certificate_fault.Reads as certificate-fault-reads
-use Rattle.faults.proofs.policies_fault.Reads as policies-fault-reads
 
 abbrev Inv-loop : tie.InvT-loop
 Inv-loop p n user-fault i₀ i = (i ≤ n) × (path-fault p ≡ certificates-fault (slice i n (p .certificates)))

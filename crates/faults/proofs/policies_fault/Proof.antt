@@ -10,9 +10,6 @@ use Rattle.rules.specs.Faults.{policies-fault}
 use Rattle.faults.proofs.Laws.{counted-over, counted-within, fault-of, fault-zero, fault-user, fault-repeats, fault-new, policies-none, policy-refused, policy-passed}
 use Rattle.faults.proofs.policies_fault.Statement.{statement}
 use Rattle.faults.proofs.policies_fault.Tie as tie
-use Rattle.faults.proofs.policies_fault.Reads as reads
-use Rattle.faults.proofs.policies_fault.Lts as lts
-use Rattle.faults.proofs.seen.Reads as seen-reads
 
 abbrev Inv-loop : tie.InvT-loop
 Inv-loop values count distinct i₀ i =

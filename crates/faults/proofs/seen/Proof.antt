@@ -9,8 +9,6 @@ use Rattle.rules.specs.Sets.{_∈_}
 use Rattle.faults.proofs.Laws.{seen-here, seen-after, seen-none}
 use Rattle.faults.proofs.seen.Statement.{statement}
 use Rattle.faults.proofs.seen.Tie as tie
-use Rattle.faults.proofs.seen.Reads as reads
-use Rattle.faults.proofs.seen.Lts as lts
 
 abbrev Inv-loop : tie.InvT-loop
 Inv-loop values before policy i₀ i = (i ≤ before) × (policy ∈ take before values ≡ policy ∈ slice i before values)

@@ -1,3 +1,4 @@
+-- `concluded` meets its contract: the counts and the authority set of the pruning, the user set, and both tables filled.
 use mathlib.Core.Path.{_≡_, refl, sym, ap, ap₂, _∙_, subst, subst⁻¹}
 use denote.Ref.{now}
 use Prim.Native.Nat.{_≤_, _-_}
@@ -18,13 +19,6 @@ use Rattle.graph.proofs.Laws.{found, tally, chosen, fails, conclusion, 
 use borrow.Author.Needs.{needs}
 use Rattle.graph.proofs.concluded.Statement.{statement}
 use Rattle.graph.proofs.concluded.Tie as tie
-use Rattle.graph.proofs.concluded.Reads as reads
-use Rattle.graph.proofs.concluded.Lts as lts
-use Rattle.depths.proofs.members.Reads as members-reads
-use Rattle.graph.proofs.ending.Reads as ending-reads
-use Rattle.graph.proofs.user_set.Reads as user-set-reads
-use Rattle.prune.proofs.prune.Reads as prune-reads
-use Rattle.sets.proofs.fill.Reads as fill-reads
 
 -- the arrays have a place for each policy and each certificate
 users-fit : (c : tie.Start) → c .args .path .«user_count» ≤ length (c .args .path .«user_policies»)
@@ -54,51 +48,39 @@ authority-fits c = omega (arith, ap length (authority-is c), held-length (c .pru
 user-fits : (c : tie.After-prune) → length (chosen (c .before .before .before .before .before .args .path) (c .before .before .before .before .before .args .reached)) ≤ Limits.table
 user-fits c = length-user Limits.table (path-of (c .before .before .before .before .before .args .path) .user-list) (found (c .before .before .before .before .before .args .path) (c .before .before .before .before .before .args .reached)) (omega (arith, ap length (users-are (c .before .before .before .before .before .args .path)), users-used (c .before .before .before .before .before), c .before .before .before .before .before .pre .1 .0)) (authority-fits c)
 
--- src/lib.rt:103:9
 prune-requires : tie.Need-prune-requires
 prune-requires c κs = search needs
 
--- src/lib.rt:108:27
 array-share-prefix-users : tie.Need-array-share-prefix-users
 array-share-prefix-users c = users-fit (c .before .before .before .before .before .before .before .before)
 
--- src/lib.rt:108:27
 slice-aggregate-user-set : tie.Need-slice-aggregate-user-set
 slice-aggregate-user-set c = sym (users-used (c .before .before .before .before .before .before .before .before .before))
 
--- src/lib.rt:108:18
 user-set-requires : tie.Need-user-set-requires
 user-set-requires c κs = (omega (arith, users-used (c .before .before .before .before .before .before .before .before .before), c .before .before .before .before .before .before .before .before .before .pre .1 .0), c .before .before .before .before .prune .ensures .1 .1)
 
--- src/lib.rt:110:27
 members-requires : tie.Need-members-requires
 members-requires c κs = search needs
 
--- src/lib.rt:110:5
 fill-requires : tie.Need-fill-requires
 fill-requires c κs = omega (arith, ap length (authority-filled c), authority-fits (c .before .before .before .before .before .before .before .before .before .before), c .before .before .before .before .before .before .before .before .before .before .before .before .before .before .before .pre .1 .1 .1 .1 .0)
 
--- src/lib.rt:112:22
 members-requires-2 : tie.Need-members-requires-2
 members-requires-2 c κs = stored-fits _ (user-is (c .before .before .before .before .before .before .before .before .before .before .before .before))
 
--- src/lib.rt:112:5
 fill-requires-2 : tie.Need-fill-requires-2
 fill-requires-2 c κs = omega (arith, ap length (user-filled c), user-fits (c .before .before .before .before .before .before .before .before .before .before .before .before .before .before .before .before .before .before), c .before .before .before .before .before .before .before .before .before .before .before .before .before .before .before .before .before .before .before .before .before .before .before .pre .1 .1 .1 .1 .1)
 
--- src/lib.rt:113:5
 ending-requires : tie.Need-ending-requires
 ending-requires c κs = c .before .before .before .before .before .before .before .before .before .before .before .before .before .before .before .before .before .before .before .before .before .before .before .before .before .before .pre .0 .most
 
--- src/lib.rt:92:1
 same-length : tie.Need-same-length
 same-length c = search needs
 
--- src/lib.rt:92:1
 same-length-2 : tie.Need-same-length-2
 same-length-2 c = search needs
 
--- src/lib.rt:92:1
 returns : tie.Need-returns
 returns c =
     let A = now (c .before .before .before .before .before .before .before .before .before .before .before .before .before .before .before .before .before .before .before .before .before .before .before .before .before .before .before .args .authority) in

@@ -1,3 +1,4 @@
+-- `ending` meets its contract: by cases on explicit_policy and the size of the user set.
 use mathlib.Core.Path.{_≡_, refl, sym, ap, ap₂, _∙_, subst, subst⁻¹}
 use borrow.Author.Tests.{eq-eqb, ne-eqb}
 use lib.Dec.{eqb}
@@ -7,22 +8,16 @@ use Rattle.graph.proofs.Laws.{ended-yes, ended-no}
 use borrow.Author.Needs.{needs}
 use Rattle.graph.proofs.ending.Statement.{statement}
 use Rattle.graph.proofs.ending.Tie as tie
-use Rattle.graph.proofs.ending.Reads as reads
-use Rattle.graph.proofs.ending.Lts as lts
 
--- src/lib.rt:79:24
 cast-t7 : tie.Need-cast-t7
 cast-t7 c = search needs
 
--- src/lib.rt:77:13
 returns : tie.Need-returns
 returns c = sym (ended-yes _ _ (and-in (eq-eqb _ 0 (c .before .if1 .taken)) (eq-eqb _ 0 (c .if2 .taken))))
 
--- src/lib.rt:71:1
 returns-2 : tie.Need-returns-2
 returns-2 c = sym (ended-no _ _ (second-no (eqb (c .before .before .args .explicit) 0) (ne-eqb _ 0 (c .if2 .left))))
 
--- src/lib.rt:71:1
 returns-3 : tie.Need-returns-3
 returns-3 c = sym (ended-no _ _ (first-no (eqb (c .before .args .users) 0) (ne-eqb _ 0 (c .if1 .left))))
 

@@ -1,3 +1,4 @@
+-- `failed` meets its contract: both tables are filled with the set of no members.
 use mathlib.Core.Path.{_≡_, refl, sym, ap, ap₂, _∙_, subst, subst⁻¹}
 use denote.Ref.{now}
 use native.Mathlib.Omega.{arith}
@@ -9,41 +10,28 @@ use Rattle.graph.proofs.Laws.{failure}
 use borrow.Author.Needs.{needs}
 use Rattle.graph.proofs.failed.Statement.{statement}
 use Rattle.graph.proofs.failed.Tie as tie
-use Rattle.graph.proofs.failed.Reads as reads
-use Rattle.graph.proofs.failed.Lts as lts
-use Rattle.depths.proofs.members.Reads as members-reads
-use Rattle.sets.proofs.fill.Reads as fill-reads
-use Rattle.sets.proofs.none.Reads as none-reads
 
--- src/lib.rt:57:16
 none-requires : tie.Need-none-requires
 none-requires c κs = search needs
 
--- src/lib.rt:58:27
 members-requires : tie.Need-members-requires
 members-requires c κs = search needs
 
--- src/lib.rt:58:5
 fill-requires : tie.Need-fill-requires
 fill-requires c κs = omega (arith, ap length (c .members .ensures))
 
--- src/lib.rt:59:22
 members-requires-2 : tie.Need-members-requires-2
 members-requires-2 c κs = search needs
 
--- src/lib.rt:59:5
 fill-requires-2 : tie.Need-fill-requires-2
 fill-requires-2 c κs = omega (arith, ap length (c .members2 .ensures))
 
--- src/lib.rt:54:1
 same-length : tie.Need-same-length
 same-length c = search needs
 
--- src/lib.rt:54:1
 same-length-2 : tie.Need-same-length-2
 same-length-2 c = search needs
 
--- src/lib.rt:54:1
 returns : tie.Need-returns
 returns c =
     let A = now (c .before .before .before .before .before .before .before .before .before .before .before .before .before .before .before .before .before .before .before .args .authority) in

@@ -1,3 +1,4 @@
+-- `judge_path` meets its contract: 7 first, then a fault of the path, then the judgement.
 use mathlib.Core.Path.{_≡_, refl, sym, ap, ap₂, _∙_, subst, subst⁻¹}
 use denote.Ref.{now}
 use native.Mathlib.Omega.{arith}
@@ -7,37 +8,25 @@ use Rattle.graph.proofs.Laws.{refused-is, short-authority, short-user, 
 use borrow.Author.Needs.{needs}
 use Rattle.graph.proofs.judge_path.Statement.{statement}
 use Rattle.graph.proofs.judge_path.Tie as tie
-use Rattle.graph.proofs.judge_path.Reads as reads
-use Rattle.graph.proofs.judge_path.Lts as lts
-use Rattle.faults.proofs.path_fault.Reads as path-fault-reads
-use Rattle.graph.proofs.judge.Reads as judge-reads
-use Rattle.graph.proofs.refused.Reads as refused-reads
 
--- src/lib.rt:136:9
 refused-requires : tie.Need-refused-requires
 refused-requires c κs = search needs
 
--- src/lib.rt:136:9
 returns : tie.Need-returns
 returns c = refused-is _ _ _ (c .refused .ensures) ∙ sym (short-authority Graph.judged _ _ _ (c .before .if1 .taken))
 
--- src/lib.rt:139:9
 refused-requires-2 : tie.Need-refused-requires-2
 refused-requires-2 c κs = search needs
 
--- src/lib.rt:139:9
 returns-2 : tie.Need-returns-2
 returns-2 c = refused-is _ _ _ (c .refused2 .ensures) ∙ sym (short-user Graph.judged _ _ _ (c .before .if2 .taken))
 
--- src/lib.rt:141:9
 path-fault-requires : tie.Need-path-fault-requires
 path-fault-requires c κs = search needs
 
--- src/lib.rt:143:9
 refused-requires-3 : tie.Need-refused-requires-3
 refused-requires-3 c κs = search needs
 
--- src/lib.rt:143:9
 returns-3 : tie.Need-returns-3
 returns-3 c =
     let A = now (c .before .before .before .before .before .before .before .args .authority) in
@@ -45,19 +34,15 @@ returns-3 c =
     refused-is _ A U (c .refused3 .ensures) ∙ ap (λ k. refusal k A U) (c .before .before .path-fault .ensures)
     ∙ sym (faulty Graph.judged _ A U (c .before .before .before .before .if1 .left) (c .before .before .before .if2 .left) (λ z. c .before .if3 .taken (c .before .before .path-fault .ensures ∙ z)))
 
--- src/lib.rt:145:5
 judge-requires : tie.Need-judge-requires
 judge-requires c κs = (sym (c .before .before .before .path-fault .ensures) ∙ c .before .before .if3 .left, (c .before .before .before .before .before .if1 .left, c .before .before .before .before .if2 .left))
 
--- src/lib.rt:132:1
 same-length : tie.Need-same-length
 same-length c = search needs
 
--- src/lib.rt:132:1
 same-length-2 : tie.Need-same-length-2
 same-length-2 c = search needs
 
--- src/lib.rt:132:1
 returns-4 : tie.Need-returns-4
 returns-4 c = c .before .before .before .before .judge .ensures ∙ sym (sound Graph.judged _ _ _ (c .before .before .before .before .before .before .before .before .before .before .if1 .left) (c .before .before .before .before .before .before .before .before .before .if2 .left) (sym (c .before .before .before .before .before .before .before .before .path-fault .ensures) ∙ c .before .before .before .before .before .before .before .if3 .left))
 

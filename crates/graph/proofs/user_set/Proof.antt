@@ -1,3 +1,4 @@
+-- `user_set` meets its contract: by cases on the user list and the authority set.
 use mathlib.Core.Path.{_≡_, refl, sym, ap, ap₂, _∙_, subst, subst⁻¹}
 use denote.Ref.{now}
 use native.Mathlib.Omega.{arith}
@@ -13,13 +14,6 @@ use Rattle.graph.proofs.Laws.{user-any, user-whole, user-part}
 use borrow.Author.Needs.{needs}
 use Rattle.graph.proofs.user_set.Statement.{statement}
 use Rattle.graph.proofs.user_set.Tie as tie
-use Rattle.graph.proofs.user_set.Reads as reads
-use Rattle.graph.proofs.user_set.Lts as lts
-use Rattle.depths.proofs.lists_any.Reads as lists-any-reads
-use Rattle.depths.proofs.members.Reads as members-reads
-use Rattle.sets.proofs.contains.Reads as contains-reads
-use Rattle.sets.proofs.of_list.Reads as of-list-reads
-use Rattle.sets.proofs.within.Reads as within-reads
 
 found : (c : tie.After-members) → now (c .members .result) ≡ set-of (c .before .before .before .before .before .before .before .before .args .t2)
 found c = c .members .ensures ∙ set-of-is _
@@ -27,40 +21,31 @@ found c = c .members .ensures ∙ set-of-is _
 named : (c : tie.After-members2) → now (c .members2 .result) ≡ ascending (now (c .before .before .before .before .before .before .before .before .before .before .before .before .before .before .args .users))
 named c = c .members2 .ensures ∙ in-use _ (c .before .before .before .before .before .before .before .before .before .before .of-list .ensures)
 
--- src/lib.rt:40:8
 lists-any-requires : tie.Need-lists-any-requires
 lists-any-requires c κs = search needs
 
--- src/lib.rt:41:9
 returns : tie.Need-returns
 returns c = c .before .before .before .pre .1 .same ∙ ap stored (sym (user-any _ _ (sym (c .before .lists-any .ensures) ∙ c .if1 .taken)))
 
--- src/lib.rt:43:17
 of-list-requires : tie.Need-of-list-requires
 of-list-requires c κs = search needs
 
--- src/lib.rt:45:9
 members-requires : tie.Need-members-requires
 members-requires c κs = search needs
 
--- src/lib.rt:46:8
 contains-requires : tie.Need-contains-requires
 contains-requires c κs = subst⁻¹ Ascends (found c) (c .before .before .before .before .before .before .before .before .pre .1 .order)
 
--- src/lib.rt:47:9
 returns-2 : tie.Need-returns-2
 returns-2 c =
     c .before .before .before .before .before .before .of-list .ensures ∙ ap stored (sym (user-whole _ _ (sym (c .before .before .before .before .before .before .before .before .lists-any .ensures) ∙ c .before .before .before .before .before .before .before .if1 .left) (sym (c .before .contains .ensures ∙ ap (λ xs. any ∈ xs) (found (c .before .before))) ∙ c .if2 .taken)))
 
--- src/lib.rt:50:25
 members-requires-2 : tie.Need-members-requires-2
 members-requires-2 c κs = stored-fits _ (c .before .before .before .before .before .before .before .before .before .of-list .ensures)
 
--- src/lib.rt:50:5
 within-requires : tie.Need-within-requires
 within-requires c κs = (omega (arith, ap length (found (c .before .before .before .before .before .before)), held-length (c .before .before .before .before .before .before .before .before .before .before .before .before .before .before .pre .1), c .before .before .before .before .before .before .before .before .before .before .before .before .before .before .pre .1 .room), subst⁻¹ Ascends (named c) (ascends-ascending _))
 
--- src/lib.rt:35:1
 returns-3 : tie.Need-returns-3
 returns-3 c =
     c .within .ensures ∙ ap₂ (λ xs ys. stored (within xs ys)) (found (c .before .before .before .before .before .before .before)) (named (c .before))

@@ -1,3 +1,4 @@
+-- `deepest` meets its contract: by cases on whether anyPolicy stands at the last depth.
 use Rattle.prune.specs.Children.{standing}
 use mathlib.Core.Path.{_≡_, refl, sym, ap, ap₂, _∙_, subst, subst⁻¹}
 use native.Mathlib.Omega.{arith}
@@ -16,11 +17,6 @@ use Rattle.prune.proofs.Laws.{standing-yes, standing-no, ascends-any}
 use borrow.Author.Needs.{needs}
 use Rattle.prune.proofs.deepest.Statement.{statement}
 use Rattle.prune.proofs.deepest.Tie as tie
-use Rattle.prune.proofs.deepest.Reads as reads
-use Rattle.prune.proofs.deepest.Lts as lts
-use Rattle.depths.proofs.members.Reads as members-reads
-use Rattle.sets.proofs.contains.Reads as contains-reads
-use Rattle.sets.proofs.union.Reads as union-reads
 
 above : (c : tie.After-members) → now (c .members .result) ≡ set-of (c .before .before .before .before .args .t1 .inherited)
 above c = c .members .ensures ∙ set-of-is _
@@ -34,36 +30,29 @@ found c = c .contains .ensures ∙ ap (λ xs. any ∈ xs) (above (c .before))
 found-one : (c : tie.After-one) → length (standing (set-of (c .before .before .before .before .before .before .before .before .before .before .before .before .args .t1 .inherited))) ≡ 1
 found-one c = ap length (standing-yes _ (sym (found (c .before .before .before .before .before .before .before)) ∙ not-false _ (c .before .before .before .before .before .if1 .left)))
 
--- src/lib.rt:109:32
 members-requires : tie.Need-members-requires
 members-requires c κs = search needs
 
--- src/lib.rt:109:9
 contains-requires : tie.Need-contains-requires
 contains-requires c κs = subst⁻¹ Ascends (above c) (c .before .before .before .before .pre .sound .inherited .order)
 
--- src/lib.rt:112:9
 returns : tie.Need-returns
 returns c =
     let u = c .before .before .before .before .before .before .before .args .t1 .«under_any» in
     c .before .before .before .before .before .before .before .pre .sound .under-any .same ∙ ap stored (sym (ap (λ xs. ascending (set-of u ++ xs)) (standing-no _ (sym (found (c .before .before)) ∙ not-true _ (c .if1 .taken))) ∙ ap ascending (append-nil _) ∙ c .before .before .before .before .before .before .before .pre .sound .under-any .order))
 
--- src/lib.rt:116:17
 members-requires-2 : tie.Need-members-requires-2
 members-requires-2 c κs = search needs
 
--- src/lib.rt:116:47
 slice-aggregate-union : tie.Need-slice-aggregate-union
 slice-aggregate-union c = search needs
 
--- src/lib.rt:116:5
 union-requires : tie.Need-union-requires
 union-requires c κs = (
   subst⁻¹ Ascends (under (c .before)) (c .before .before .before .before .before .before .before .before .before .before .before .before .pre .sound .under-any .order),
   (ascends-any, omega (arith, ap length (under (c .before)), held-length (c .before .before .before .before .before .before .before .before .before .before .before .before .pre .sound .under-any), c .before .before .before .before .before .before .before .before .before .before .before .before .pre .few, found-one c)),
 )
 
--- src/lib.rt:104:1
 returns-2 : tie.Need-returns-2
 returns-2 c =
     let u = set-of (c .before .before .before .before .before .before .before .before .before .before .before .before .before .args .t1 .«under_any») in

@@ -1,3 +1,4 @@
+-- `has_child` meets its contract: by cases on the tests, in the order of the definition.
 use mathlib.Core.Path.{_≡_, refl, sym, ap, ap₂, _∙_, subst, subst⁻¹}
 use mathlib.Core.Bool.{_&&_, false}
 use mathlib.Core.Logic.{⊎-elim}
@@ -8,34 +9,25 @@ use Rattle.prune.proofs.Laws.{child-any, child-other, not-any, no-any-c
 use borrow.Author.Needs.{needs}
 use Rattle.prune.proofs.has_child.Statement.{statement}
 use Rattle.prune.proofs.has_child.Tie as tie
-use Rattle.prune.proofs.has_child.Reads as reads
-use Rattle.prune.proofs.has_child.Lts as lts
-use Rattle.sets.proofs.contains.Reads as contains-reads
 
 other : (c : tie.Joined1) → (eqb (c .before .before .before .before .args .q) any && c .before .before .before .before .args .any-child) ≡ false
 other c = ⊎-elim (λ w. not-any (c .before .before .before .before .args .any-child) (c .before .before .before .before .args .q) (w .1 .left)) (λ w. no-any-child (c .before .before .before .before .args .any-child) (c .before .before .before .before .args .q) (w .left)) (c .if1 .came)
 
--- src/lib.rt:35:13
 returns : tie.Need-returns
 returns c = sym (child-any _ _ _ _ _ (c .before .if1 .taken) (c .if2 .taken))
 
--- src/lib.rt:38:8
 contains-requires : tie.Need-contains-requires
 contains-requires c κs = search needs
 
--- src/lib.rt:39:9
 contains-requires-2 : tie.Need-contains-requires-2
 contains-requires-2 c κs = search needs
 
--- src/lib.rt:41:9
 contains-requires-3 : tie.Need-contains-requires-3
 contains-requires-3 c κs = search needs
 
--- src/lib.rt:27:1
 returns-2 : tie.Need-returns-2
 returns-2 c = c .contains2 .ensures ∙ sym (child-other _ _ _ _ _ (other (c .before .before .before)) ∙ pick-yes _ _ (sym (c .before .before .contains .ensures) ∙ c .before .if3 .taken))
 
--- src/lib.rt:27:1
 returns-3 : tie.Need-returns-3
 returns-3 c = c .contains3 .ensures ∙ sym (child-other _ _ _ _ _ (other (c .before .before .before)) ∙ pick-no _ _ (sym (c .before .before .contains .ensures) ∙ c .before .if3 .left))
 

@@ -1,3 +1,4 @@
+-- `kept` meets its contract: the invariant: the nodes passed that have a child stand first in the array (sets/proofs/Selecting).
 use mathlib.Core.Path.{_≡_, refl, sym, ap, ap₂, _∙_, subst, subst⁻¹}
 use Prim.Native.Nat.{_-_, _<_}
 use mathlib.Core.Logic.{⊎-elim}
@@ -11,9 +12,6 @@ use Rattle.prune.specs.Children.{child-by}
 use borrow.Author.Needs.{needs}
 use Rattle.prune.proofs.kept.Statement.{statement}
 use Rattle.prune.proofs.kept.Tie as tie
-use Rattle.prune.proofs.kept.Reads as reads
-use Rattle.prune.proofs.kept.Lts as lts
-use Rattle.prune.proofs.has_child.Reads as has-child-reads
 
 abbrev Inv-loop : tie.InvT-loop
 Inv-loop nodes issuers to inherited any-child items₀ n₀ i₀ items n i = Selected (child-by issuers to inherited any-child) Limits.table nodes i items n
@@ -24,43 +22,33 @@ abbrev μ-loop : tie.MeasureT-loop
 room : (c : tie.In-loop Inv-loop μ-loop) → c .before .loop .n < Limits.table
 room c = selected-room (c .loop-test .taken) (c .before .before .before .before .before .before .pre .0) (c .before .loop .inv)
 
--- src/lib.rt:56:5
 loop-holds : tie.Need-loop-holds Inv-loop μ-loop
 loop-holds c = selected-none _ _ _
 
--- src/lib.rt:57:17
 mul-q : tie.Need-mul-q Inv-loop μ-loop
 mul-q c = omega arith
 
--- src/lib.rt:57:17
 shared-slice-read-q : tie.Need-shared-slice-read-q Inv-loop μ-loop
 shared-slice-read-q c = omega arith
 
--- src/lib.rt:58:12
 has-child-requires : tie.Need-has-child-requires Inv-loop μ-loop
 has-child-requires c κs = (c .before .before .before .before .before .before .before .pre .1 .0, (c .before .before .before .before .before .before .before .pre .1 .1 .0, c .before .before .before .before .before .before .before .pre .1 .1 .1))
 
--- src/lib.rt:59:13
 mul-items : tie.Need-mul-items Inv-loop μ-loop
 mul-items c = omega (arith, room (c .before .before .before))
 
--- src/lib.rt:59:13
 array-write-items : tie.Need-array-write-items Inv-loop μ-loop
 array-write-items c = room (c .before .before .before)
 
--- src/lib.rt:60:13
 add-n : tie.Need-add-n Inv-loop μ-loop
 add-n c = omega (arith, room (c .before .before .before))
 
--- src/lib.rt:62:9
 add-i : tie.Need-add-i Inv-loop μ-loop
 add-i c = omega arith
 
--- src/lib.rt:56:5
 loop-less : tie.Need-loop-less Inv-loop μ-loop
 loop-less c = omega arith
 
--- src/lib.rt:56:5
 loop-again : tie.Need-loop-again Inv-loop μ-loop
 loop-again c =
     let turn = c .before .before .before in
@@ -70,7 +58,6 @@ loop-again c =
     (λ w. selected-same (w .1) (w .2) (selected-left (turn .loop-test .taken) (c .before .before .before .before .before .before .before .before .before .pre .0) (turn .before .loop .inv) (sym learnt ∙ w .0 .left)))
     (c .if1 .came)
 
--- src/lib.rt:46:1
 returns : tie.Need-returns Inv-loop μ-loop
 returns c = holds-stored (selected-all (c .loop-test .left) (c .before .loop .inv))
 

@@ -1,3 +1,4 @@
+-- `kept_level` meets its contract: both sets of the depth, with the issuers and those that a mapping keeps computed once.
 use mathlib.Core.Path.{_≡_, refl, sym, ap, ap₂, _∙_, subst, subst⁻¹}
 use Prim.Native.Nat.{_≤_}
 use native.Mathlib.Omega.{arith}
@@ -21,12 +22,6 @@ use Rattle.prune.proofs.Laws.{kept-is}
 use borrow.Author.Needs.{needs}
 use Rattle.prune.proofs.kept_level.Statement.{statement}
 use Rattle.prune.proofs.kept_level.Tie as tie
-use Rattle.prune.proofs.kept_level.Reads as reads
-use Rattle.prune.proofs.kept_level.Lts as lts
-use Rattle.depths.proofs.members.Reads as members-reads
-use Rattle.prune.proofs.kept.Reads as kept-reads
-use Rattle.sets.proofs.of_list.Reads as of-list-reads
-use Rattle.sets.proofs.picked.Reads as picked-reads
 
 -- the arrays have a place for each mapping
 issuers-fit : (c : tie.Start) → c .args .c .«mapping_count» ≤ length (c .args .c .issuers)
@@ -69,68 +64,52 @@ ordered c = (
 children : (c : tie.Start) → not (eqb (c .args .t2 .«under_any» .len) 0) ≡ not (empty (set-of (c .args .t2 .«under_any»)))
 children c = ap not (ap (λ n. eqb n 0) (sym (held-length (c .pre .1 .0 .under-any))) ∙ empty-len _)
 
--- src/lib.rt:78:9
 members-requires : tie.Need-members-requires
 members-requires c κs = search needs
 
--- src/lib.rt:80:29
 array-share-prefix-issuers : tie.Need-array-share-prefix-issuers
 array-share-prefix-issuers c = issuers-fit (c .before .before .before .before .before .before)
 
--- src/lib.rt:80:29
 slice-aggregate-of-list : tie.Need-slice-aggregate-of-list
 slice-aggregate-of-list c = sym (issuers-used (c .before .before .before .before .before .before .before))
 
--- src/lib.rt:80:15
 of-list-requires : tie.Need-of-list-requires
 of-list-requires c κs = omega (arith, issuers-used (c .before .before .before .before .before .before .before), c .before .before .before .before .before .before .before .pre .0)
 
--- src/lib.rt:82:9
 members-requires-2 : tie.Need-members-requires-2
 members-requires-2 c κs = stored-fits _ (c .before .before .before .of-list .ensures)
 
--- src/lib.rt:83:31
 array-share-prefix-subjects : tie.Need-array-share-prefix-subjects
 array-share-prefix-subjects c = subjects-fit (c .before .before .before .before .before .before .before .before .before .before .before .before)
 
--- src/lib.rt:83:31
 slice-aggregate-picked : tie.Need-slice-aggregate-picked
 slice-aggregate-picked c = sym (subjects-used (c .before .before .before .before .before .before .before .before .before .before .before .before .before))
 
--- src/lib.rt:83:47
 array-share-prefix-issuers-2 : tie.Need-array-share-prefix-issuers-2
 array-share-prefix-issuers-2 c = issuers-fit (c .before .before .before .before .before .before .before .before .before .before .before .before .before)
 
--- src/lib.rt:83:47
 slice-aggregate-picked-2 : tie.Need-slice-aggregate-picked-2
 slice-aggregate-picked-2 c = sym (issuers-used (c .before .before .before .before .before .before .before .before .before .before .before .before .before .before))
 
--- src/lib.rt:83:18
 picked-requires : tie.Need-picked-requires
 picked-requires c κs =
     (subjects-used (c .before .before .before .before .before .before .before .before .before .before .before .before .before .before) ∙ sym (issuers-used (c .before .before .before .before .before .before .before .before .before .before .before .before .before .before)), (omega (arith, subjects-used (c .before .before .before .before .before .before .before .before .before .before .before .before .before .before), c .before .before .before .before .before .before .before .before .before .before .before .before .before .before .pre .0), subst⁻¹ Ascends (expected (c .before .before .before .before .before .before .before .before)) (c .before .before .before .before .before .before .before .before .before .before .before .before .before .before .pre .1 .0 .inherited .order)))
 
--- src/lib.rt:85:9
 members-requires-3 : tie.Need-members-requires-3
 members-requires-3 c κs = stored-fits _ (c .before .before .before .picked .ensures)
 
--- src/lib.rt:87:26
 members-requires-4 : tie.Need-members-requires-4
 members-requires-4 c κs = c .before .before .before .before .before .before .before .before .before .before .before .before .before .before .before .before .before .before .before .before .before .before .pre .1 .1 .inherited .fits
 
--- src/lib.rt:87:9
 kept-requires : tie.Need-kept-requires
 kept-requires c κs = (omega (arith, ap length (above c), held-length (c .before .before .before .before .before .before .before .before .before .before .before .before .before .before .before .before .before .before .before .before .before .before .before .pre .1 .1 .inherited), c .before .before .before .before .before .before .before .before .before .before .before .before .before .before .before .before .before .before .before .before .before .before .before .pre .1 .1 .inherited .room), ordered (c .before .before .before .before))
 
--- src/lib.rt:89:26
 members-requires-5 : tie.Need-members-requires-5
 members-requires-5 c κs = c .before .before .before .before .before .before .before .before .before .before .before .before .before .before .before .before .before .before .before .before .before .before .before .before .before .before .before .pre .1 .1 .under-any .fits
 
--- src/lib.rt:89:9
 kept-requires-2 : tie.Need-kept-requires-2
 kept-requires-2 c κs = (omega (arith, ap length (above-under c), held-length (c .before .before .before .before .before .before .before .before .before .before .before .before .before .before .before .before .before .before .before .before .before .before .before .before .before .before .before .before .pre .1 .1 .under-any), c .before .before .before .before .before .before .before .before .before .before .before .before .before .before .before .before .before .before .before .before .before .before .before .before .before .before .before .before .pre .1 .1 .under-any .room), ordered (c .before .before .before .before .before .before .before .before .before))
 
--- src/lib.rt:68:1
 returns : tie.Need-returns
 unfolding level-of
 returns c =

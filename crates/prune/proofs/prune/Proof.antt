@@ -1,3 +1,4 @@
+-- `prune` meets its contract: the invariant: Climbing, of Climb. The measure is the number of depths to go.
 use mathlib.Core.Bool.{_&&_}
 use lib.Dec.{eqb}
 use lib.ListN.{length, set, getD}
@@ -17,14 +18,6 @@ use Rattle.prune.specs.Children.{Walked}
 use borrow.Author.Needs.{needs}
 use Rattle.prune.proofs.prune.Statement.{statement}
 use Rattle.prune.proofs.prune.Tie as tie
-use Rattle.prune.proofs.prune.Reads as reads
-use Rattle.prune.proofs.prune.Lts as lts
-use Rattle.depths.proofs.members.Reads as members-reads
-use Rattle.prune.proofs.deepest.Reads as deepest-reads
-use Rattle.prune.proofs.kept_level.Reads as kept-level-reads
-use Rattle.prune.proofs.root.Reads as root-reads
-use Rattle.prune.proofs.size.Reads as size-reads
-use Rattle.sets.proofs.union.Reads as union-reads
 
 abbrev Inv-loop : tie.InvT-loop
 Inv-loop levels certificates counts₀ authority₀ below₀ i₀ counts authority below i = Climbing certificates levels (level-of below₀) i₀ counts authority below i
@@ -57,68 +50,52 @@ place c = omega (arith, c .loop-test .taken)
 at-top : (c : tie.After-loop Inv-loop μ-loop) → Climbing (c .before .before .before .before .before .args .path .certificates) (c .before .before .before .before .before .args .t2) (level-of (c .before .before .before .before .before .args .last)) (c .before .before .before .before .before .args .path .«certificate_count» - 1) (c .before .loop .counts) (c .before .loop .authority) (c .before .loop .below) 0
 at-top c = subst (Climbing (c .before .before .before .before .before .args .path .certificates) (c .before .before .before .before .before .args .t2) (level-of (c .before .before .before .before .before .args .last)) (c .before .before .before .before .before .args .path .«certificate_count» - 1) (c .before .loop .counts) (c .before .loop .authority) (c .before .loop .below)) (omega (arith, c .loop-test .left)) (c .before .loop .inv)
 
--- src/lib.rt:140:25
 deepest-requires : tie.Need-deepest-requires Inv-loop μ-loop
 deepest-requires c κs = c .before .pre .1 .1 .1
 
--- src/lib.rt:142:17
 sub-i : tie.Need-sub-i Inv-loop μ-loop
 sub-i c = search needs
 
--- src/lib.rt:143:5
 loop-holds : tie.Need-loop-holds Inv-loop μ-loop
 loop-holds c = climb-start _ _ _ _ _ (omega (arith, c .before .before .before .pre)) (c .before .before .before .pre .1 .1 .1) (c .before .deepest .ensures)
 
--- src/lib.rt:144:25
 size-requires : tie.Need-size-requires Inv-loop μ-loop
 size-requires c κs = (c .before .loop .inv .sound .inherited .room, c .before .loop .inv .sound .under-any .room)
 
--- src/lib.rt:144:16
 add-counts : tie.Need-add-counts Inv-loop μ-loop
 add-counts c = omega (arith, c .before .before .loop .inv .fewer, c .before .before .before .before .before .before .pre)
 
--- src/lib.rt:144:9
 mul-counts : tie.Need-mul-counts Inv-loop μ-loop
 mul-counts c = omega (arith, c .before .before .loop .inv .fewer, c .before .before .before .before .before .before .pre)
 
--- src/lib.rt:144:9
 array-write-counts : tie.Need-array-write-counts Inv-loop μ-loop
 array-write-counts c = omega (arith, c .before .before .loop .inv .fewer, c .before .before .before .before .before .before .pre)
 
--- src/lib.rt:145:9
 sub-i-2 : tie.Need-sub-i-2 Inv-loop μ-loop
 sub-i-2 c = search needs
 
--- src/lib.rt:146:17
 mul-c : tie.Need-mul-c Inv-loop μ-loop
 mul-c c = omega (arith, c .before .before .loop .inv .fewer, c .before .before .before .before .before .before .pre)
 
--- src/lib.rt:146:17
 array-copy-out-c : tie.Need-array-copy-out-c Inv-loop μ-loop
 array-copy-out-c c = omega (arith, c .before .before .loop .inv .fewer, c .before .before .before .before .before .before .pre)
 
--- src/lib.rt:147:21
 mul-level : tie.Need-mul-level Inv-loop μ-loop
 mul-level c = omega (arith, c .before .before .before .loop .inv .fewer, c .before .before .before .before .before .before .before .pre)
 
--- src/lib.rt:147:21
 array-copy-out-level : tie.Need-array-copy-out-level Inv-loop μ-loop
 array-copy-out-level c = omega (arith, c .before .before .before .loop .inv .fewer, c .before .before .before .before .before .before .before .pre)
 
--- src/lib.rt:148:17
 kept-level-requires : tie.Need-kept-level-requires Inv-loop μ-loop
 kept-level-requires c κs =
     (few-mappings _ _ _ (walked (c .before .before .before)) (at (c .before .before .before)), (c .before .before .before .before .loop .inv .sound, sound-above _ _ _ (walked (c .before .before .before)) (at (c .before .before .before))))
 
--- src/lib.rt:151:33
 members-requires : tie.Need-members-requires Inv-loop μ-loop
 members-requires c κs = c .before .before .before .before .before .before .before .before .loop .inv .held .fits
 
--- src/lib.rt:151:63
 members-requires-2 : tie.Need-members-requires-2 Inv-loop μ-loop
 members-requires-2 c κs = sound (c .before .before .before .before .before .before .before) .under-any .fits
 
--- src/lib.rt:151:21
 union-requires : tie.Need-union-requires Inv-loop μ-loop
 union-requires c κs =
     let a = so-far (c .before .before .before .before) in
@@ -130,34 +107,27 @@ union-requires c κs =
       ),
     )
 
--- src/lib.rt:143:5
 loop-less : tie.Need-loop-less Inv-loop μ-loop
 loop-less c = search needs
 
--- src/lib.rt:143:5
 loop-again : tie.Need-loop-again Inv-loop μ-loop
 loop-again c =
     climb _ _ _ (walked (c .before .before .before .before .before .before .before .before .before .before .before .before .before)) (at (c .before .before .before .before .before .before .before .before .before .before .before .before .before)) (c .before .before .before .before .before .before .before .before .before .kept-level .ensures)
     (ap₂ (set (c .before .before .before .before .before .before .before .before .before .before .before .before .before .before .loop .counts)) (place (c .before .before .before .before .before .before .before .before .before .before .before .before .before)) (c .before .before .before .before .before .before .before .before .before .before .before .before .size .ensures ∙ level-size (c .before .before .before .before .before .before .before .before .before .before .before .before .before .before .loop .inv .sound)))
     (c .union .ensures ∙ ap₂ (λ xs ys. stored (union xs ys)) (so-far (c .before .before .before .before .before)) (added (c .before)))
 
--- src/lib.rt:153:17
 size-requires-2 : tie.Need-size-requires-2 Inv-loop μ-loop
 size-requires-2 c κs = (c .before .loop .inv .sound .inherited .room, c .before .loop .inv .sound .under-any .room)
 
--- src/lib.rt:153:5
 array-write-counts-2 : tie.Need-array-write-counts-2 Inv-loop μ-loop
 array-write-counts-2 c = search needs
 
--- src/lib.rt:154:17
 root-requires : tie.Need-root-requires Inv-loop μ-loop
 root-requires c κs = Prim.tt
 
--- src/lib.rt:154:5
 array-write-counts-3 : tie.Need-array-write-counts-3 Inv-loop μ-loop
 array-write-counts-3 c = search needs
 
--- src/lib.rt:131:1
 returns : tie.Need-returns Inv-loop μ-loop
 returns c =
     let t = at-top (c .before .before) in (

@@ -1,3 +1,4 @@
+-- `root` meets its contract: by cases on the two sizes.
 use mathlib.Core.Path.{_≡_, refl, sym, ap, ap₂, _∙_, subst, subst⁻¹}
 use mathlib.Core.Bool.{_&&_}
 use lib.Dec.{eqb}
@@ -7,18 +8,13 @@ use Rattle.depths.proofs.Laws.{pick-yes, pick-no}
 use Rattle.prune.proofs.Laws.{first-no, second-no}
 use Rattle.prune.proofs.root.Statement.{statement}
 use Rattle.prune.proofs.root.Tie as tie
-use Rattle.prune.proofs.root.Reads as reads
-use Rattle.prune.proofs.root.Lts as lts
 
--- src/lib.rt:134:13
 returns : tie.Need-returns
 returns c = sym (pick-yes 0 1 (and-in (eq-eqb _ 0 (c .before .if1 .taken)) (eq-eqb _ 0 (c .if2 .taken))))
 
--- src/lib.rt:129:1
 returns-2 : tie.Need-returns-2
 returns-2 c = sym (pick-no 0 1 (second-no (eqb (c .before .before .args .inherited) 0) (ne-eqb _ 0 (c .if2 .left))))
 
--- src/lib.rt:129:1
 returns-3 : tie.Need-returns-3
 returns-3 c = sym (pick-no 0 1 (first-no _ (ne-eqb _ 0 (c .if1 .left))))
 

@@ -1,3 +1,4 @@
+-- `after_mappings` meets its contract: the depth after the mappings, what it expects, and whether anyPolicy stands there.
 use mathlib.Core.Path.{_≡_, refl, sym, ap, ap₂, _∙_, subst, subst⁻¹}
 use Prim.Native.Nat.{_≤_, _+_}
 use native.Mathlib.Omega.{arith}
@@ -19,14 +20,6 @@ use Rattle.walk.specs.Walking.{next-of}
 use Rattle.walk.proofs.Laws.{next-is, level-of-is}
 use Rattle.walk.proofs.after_mappings.Statement.{statement}
 use Rattle.walk.proofs.after_mappings.Tie as tie
-use Rattle.walk.proofs.after_mappings.Reads as reads
-use Rattle.walk.proofs.after_mappings.Lts as lts
-use Rattle.depths.proofs.expected.Reads as expected-reads
-use Rattle.depths.proofs.mapped.Reads as mapped-reads
-use Rattle.depths.proofs.members.Reads as members-reads
-use Rattle.depths.proofs.policies.Reads as policies-reads
-use Rattle.sets.proofs.contains.Reads as contains-reads
-use Rattle.sets.proofs.of_list.Reads as of-list-reads
 
 -- the arrays have a place for each mapping
 issuers-fit : (c : tie.Start) → c .args .c .«mapping_count» ≤ length (c .args .c .issuers)
@@ -70,52 +63,40 @@ nodes c = c .members2 .ensures ∙ in-use _ (c .before .before .before .before .
 stands : (c : tie.After-members3) → now (c .members3 .result) ≡ M (c .before .before .before .before .before .before .before .before .before .before .before .before .before .before .before .before .before .before .before .before .before) .inherited
 stands c = c .members3 .ensures ∙ set-of-is _ ∙ level-of-is _ (level-of-stored (M (c .before .before .before .before .before .before .before .before .before .before .before .before .before .before .before .before .before .before .before .before .before)) (made (c .before .before .before .before .before .before .before .before .before .before .before .before)))
 
--- src/lib.rt:44:29
 array-share-prefix-issuers : tie.Need-array-share-prefix-issuers
 array-share-prefix-issuers c = issuers-fit (c .before .before)
 
--- src/lib.rt:44:29
 slice-aggregate-of-list : tie.Need-slice-aggregate-of-list
 slice-aggregate-of-list c = sym (issuers-used (c .before .before .before))
 
--- src/lib.rt:44:15
 of-list-requires : tie.Need-of-list-requires
 of-list-requires c κs = omega (arith, issuers-used (c .before .before .before), c .before .before .before .pre .0)
 
--- src/lib.rt:46:9
 members-requires : tie.Need-members-requires
 members-requires c κs = stored-fits _ (c .before .before .before .of-list .ensures)
 
--- src/lib.rt:47:17
 mapped-requires : tie.Need-mapped-requires
 mapped-requires c κs =
     (subst⁻¹ Ascends (listed c) (ascends-ascending _), (c .before .before .before .before .before .before .before .before .pre .1 .0, omega (arith, ap length (listed c), length-ascending (issuers-in (c .before .before .before .before .before .before .before .before .args .c)), issuers-used (c .before .before .before .before .before .before .before .before), c .before .before .before .before .before .before .before .before .pre .0, c .before .before .before .before .before .before .before .before .pre .1 .1)))
 
--- src/lib.rt:48:17
 policies-requires : tie.Need-policies-requires
 policies-requires c κs = (sound c, omega (arith, level-size (sound c), ap size (level-of-stored (M (c .before .before .before .before .before .before .before .before .before)) (made c)), fits (c .before .before .before .before .before .before .before .before .before)))
 
--- src/lib.rt:50:29
 array-share-prefix-issuers-2 : tie.Need-array-share-prefix-issuers-2
 array-share-prefix-issuers-2 c = issuers-fit (c .before .before .before .before .before .before .before .before .before .before)
 
--- src/lib.rt:50:29
 slice-aggregate-expected : tie.Need-slice-aggregate-expected
 slice-aggregate-expected c = sym (issuers-used (c .before .before .before .before .before .before .before .before .before .before .before))
 
--- src/lib.rt:50:44
 array-share-prefix-subjects : tie.Need-array-share-prefix-subjects
 array-share-prefix-subjects c = subjects-fit (c .before .before .before .before .before .before .before .before .before .before .before)
 
--- src/lib.rt:50:44
 slice-aggregate-expected-2 : tie.Need-slice-aggregate-expected-2
 slice-aggregate-expected-2 c = sym (subjects-used (c .before .before .before .before .before .before .before .before .before .before .before .before))
 
--- src/lib.rt:50:64
 members-requires-2 : tie.Need-members-requires-2
 members-requires-2 c κs = stored-fits _ (c .before .before .before .before .before .policies .ensures)
 
--- src/lib.rt:50:9
 expected-requires : tie.Need-expected-requires
 expected-requires c κs =
     let m = c .before .before .before .before .before .before .before .before .before .before .before .before .before .before .before .before .args .mapping in
@@ -134,15 +115,12 @@ expected-requires c κs =
       ),
     )
 
--- src/lib.rt:52:30
 members-requires-3 : tie.Need-members-requires-3
 members-requires-3 c κs = sound (c .before .before .before .before .before .before .before .before .before .before .before) .inherited .fits
 
--- src/lib.rt:52:9
 contains-requires : tie.Need-contains-requires
 contains-requires c κs = subst⁻¹ Ascends (c .members3 .ensures ∙ set-of-is _) (sound (c .before .before .before .before .before .before .before .before .before .before .before .before) .inherited .order)
 
--- src/lib.rt:35:1
 returns : tie.Need-returns
 returns c =
     let e = c .before .before .before .before .before .expected .ensures ∙ ap₂ (λ xs ys. stored (expected-by (issuers-in (c .before .before .before .before .before .before .before .before .before .before .before .before .before .before .before .before .before .before .before .before .before .before .args .c)) (subjects-in (c .before .before .before .before .before .before .before .before .before .before .before .before .before .before .before .before .before .before .before .before .before .before .args .c)) xs ys)) (ds (c .before .before .before .before .before .before .before .before .before .before .before .before .before .before)) (nodes (c .before .before .before .before .before .before)) ∙ ap stored (sym (expected-is (c .before .before .before .before .before .before .before .before .before .before .before .before .before .before .before .before .before .before .before .before .before .before .args .c) (M (c .before .before .before .before .before .before .before .before .before .before .before .before .before .before .before .before .before .before .before .before .before .before)))) in

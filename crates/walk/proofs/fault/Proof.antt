@@ -1,3 +1,4 @@
+-- `fault` meets its contract: test 8, then test 9.
 use Rattle.prune.proofs.Laws.{first-no, second-no}
 use mathlib.Core.Path.{_≡_, refl, sym, ap, ap₂, _∙_, subst, subst⁻¹}
 use mathlib.Core.Bool.{Bool, false, _&&_}
@@ -9,9 +10,6 @@ use Rattle.rules.proofs.Sets.{and-in}
 use borrow.Author.Needs.{needs}
 use Rattle.walk.proofs.fault.Statement.{statement}
 use Rattle.walk.proofs.fault.Tie as tie
-use Rattle.walk.proofs.fault.Reads as reads
-use Rattle.walk.proofs.fault.Lts as lts
-use Rattle.depths.proofs.maps_any.Reads as maps-any-reads
 
 stands : (c : tie.Joined1) → (eqb (c .before .args .explicit) 0 && (eqb (c .before .args .inherited) 0 && eqb (c .before .args .under-any) 0)) ≡ false
 stands c =
@@ -22,19 +20,15 @@ stands c =
     (⊎-elim (λ w. second-no e (first-no b (ne-eqb _ 0 (w .1 .left)))) (λ w. first-no (a && b) (ne-eqb _ 0 (w .left))))
     (c .if1 .came)
 
--- src/lib.rt:64:17
 returns : tie.Need-returns
 returns c = sym (fault-8 _ _ _ (and-in (eq-eqb _ 0 (c .before .before .if1 .taken)) (and-in (eq-eqb _ 0 (c .before .if2 .taken)) (eq-eqb _ 0 (c .if3 .taken)))))
 
--- src/lib.rt:68:8
 maps-any-requires : tie.Need-maps-any-requires
 maps-any-requires c κs = search needs
 
--- src/lib.rt:57:1
 returns-2 : tie.Need-returns-2
 returns-2 c = sym (fault-9 _ _ _ (stands (c .before .before)) (sym (c .before .maps-any .ensures) ∙ c .if4 .taken))
 
--- src/lib.rt:57:1
 returns-3 : tie.Need-returns-3
 returns-3 c = sym (fault-0 _ _ _ (stands (c .before .before)) (sym (c .before .maps-any .ensures) ∙ c .if4 .left))
 

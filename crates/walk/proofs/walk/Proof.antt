@@ -1,3 +1,4 @@
+-- `walk` meets its contract: the invariant: Walking, of Steps. The measure is the number of certificates to go.
 use mathlib.Core.Bool.{Bool, false}
 use Rattle.rules.specs.Answers.{failed}
 use Rattle.rules.specs.Layout.{certificate-of, path-of}
@@ -16,16 +17,6 @@ use Rattle.walk.specs.Walking.{Legal, next-of}
 use borrow.Author.Needs.{needs}
 use Rattle.walk.proofs.walk.Statement.{statement}
 use Rattle.walk.proofs.walk.Tie as tie
-use Rattle.walk.proofs.walk.Reads as reads
-use Rattle.walk.proofs.walk.Lts as lts
-use Rattle.counters.proofs.after.Reads as after-reads
-use Rattle.counters.proofs.explicit_at_end.Reads as explicit-at-end-reads
-use Rattle.counters.proofs.start.Reads as start-reads
-use Rattle.depths.proofs.new_level.Reads as new-level-reads
-use Rattle.sets.proofs.none.Reads as none-reads
-use Rattle.sets.proofs.of_list.Reads as of-list-reads
-use Rattle.walk.proofs.after_mappings.Reads as after-mappings-reads
-use Rattle.walk.proofs.fault.Reads as fault-reads
 
 abbrev Inv-loop : tie.InvT-loop
 Inv-loop path n levels₀ expected₀ any-above₀ k₀ i₀ levels expected any-above k i = Walking path levels expected any-above k i
@@ -47,66 +38,51 @@ after-is c =
     let C = certificate-of (getD (c .before .before .before .before .before .before .before .before .before .before .before .before .args .t1 .certificates) (c .before .before .before .before .before .before .loop .i) no-certificate) in
     c .after-mappings .ensures ∙ ap (λ L. next-of C (mapped (c .before .before .before .before .before .before .loop .k .mapping) C L)) (level-of-stored _ (c .before .before .before .new-level .ensures))
 
--- src/lib.rt:79:9
 none-requires : tie.Need-none-requires Inv-loop μ-loop
 none-requires c κs = Prim.tt
 
--- src/lib.rt:80:9
 none-requires-2 : tie.Need-none-requires-2 Inv-loop μ-loop
 none-requires-2 c κs = Prim.tt
 
--- src/lib.rt:84:38
 slice-aggregate-of-list : tie.Need-slice-aggregate-of-list Inv-loop μ-loop
 slice-aggregate-of-list c = refl
 
--- src/lib.rt:84:9
 of-list-requires : tie.Need-of-list-requires Inv-loop μ-loop
 of-list-requires c κs = omega arith
 
--- src/lib.rt:86:9
 start-requires : tie.Need-start-requires Inv-loop μ-loop
 start-requires c κs = c .before .before .before .before .pre .most
 
--- src/lib.rt:88:5
 loop-holds : tie.Need-loop-holds Inv-loop μ-loop
 loop-holds c = walk-start _ (c .before .before .before .before .before .pre) (fits (c .before .before .before .before .before)) _ _ _ refl (c .before .of-list .ensures) (c .start .ensures)
 
--- src/lib.rt:88:11
 add-loop : tie.Need-add-loop Inv-loop μ-loop
 add-loop c = omega (arith, c .loop .inv .some, c .before .before .before .before .before .before .pre .most)
 
--- src/lib.rt:89:17
 mul-c : tie.Need-mul-c Inv-loop μ-loop
 mul-c c = omega (arith, c .before .loop .inv .some, c .before .before .before .before .before .before .before .pre .most)
 
--- src/lib.rt:89:17
 element-copy-out-c : tie.Need-element-copy-out-c Inv-loop μ-loop
 element-copy-out-c c = omega (arith, c .before .loop .inv .some, c .before .before .before .before .before .before .before .pre .most)
 
--- src/lib.rt:90:13
 new-level-requires : tie.Need-new-level-requires Inv-loop μ-loop
 new-level-requires c κs = (c .before .before .before .before .before .before .before .before .pre .policies _ (c .before .before .loop .inv .some), c .before .before .loop .inv .held)
 
--- src/lib.rt:91:13
 fault-requires : tie.Need-fault-requires Inv-loop μ-loop
 fault-requires c κs = c .before .before .before .before .before .before .before .before .before .pre .mappings _ (c .before .before .before .loop .inv .some)
 
--- src/lib.rt:95:25
 add-t30 : tie.Need-add-t30 Inv-loop μ-loop
 add-t30 c = omega (arith, c .before .before .before .before .before .loop .inv .some, c .before .before .before .before .before .before .before .before .before .before .before .pre .most)
 
--- src/lib.rt:95:24
 cast-t31 : tie.Need-cast-t31 Inv-loop μ-loop
 cast-t31 c = omega (arith, c .before .before .before .before .before .loop .inv .some, c .before .before .before .before .before .before .before .before .before .before .before .pre .most)
 
--- src/lib.rt:93:13
 returns : tie.Need-returns Inv-loop μ-loop
 returns c = (
   walk-fails _ (c .before .before .before .before .before .before .before .before .before .before .before .pre) (fits (c .before .before .before .before .before .before .before .before .before .before .before)) (c .before .before .before .before .before .loop .inv) (c .before .before .new-level .ensures) (more (c .before .before .before .before)) (c .before .fault .ensures) (c .if1 .taken) ∙ ap (failed _) (sym (add-one (c .before .before .before .before .before .loop .i))) ∙ sym (answer-fails _ _ (c .if1 .taken)),
   ((λ e. absurd (c .if1 .taken e)), (λ e. absurd (c .if1 .taken e))),
 )
 
--- src/lib.rt:101:13
 after-mappings-requires : tie.Need-after-mappings-requires Inv-loop μ-loop
 after-mappings-requires c κs = (
   c .before .before .before .before .before .before .before .before .before .before .before .pre .mappings _ (c .before .before .before .before .before .loop .inv .some),
@@ -116,27 +92,21 @@ after-mappings-requires c κs = (
   ),
 )
 
--- src/lib.rt:103:9
 mul-levels : tie.Need-mul-levels Inv-loop μ-loop
 mul-levels c = omega (arith, c .before .before .before .before .before .before .before .loop .inv .some, c .before .before .before .before .before .before .before .before .before .before .before .before .before .pre .most)
 
--- src/lib.rt:103:9
 array-set-from-levels : tie.Need-array-set-from-levels Inv-loop μ-loop
 array-set-from-levels c = omega (arith, c .before .before .before .before .before .before .before .loop .inv .some, c .before .before .before .before .before .before .before .before .before .before .before .before .before .pre .most)
 
--- src/lib.rt:106:9
 after-requires : tie.Need-after-requires Inv-loop μ-loop
 after-requires c κs = Prim.tt
 
--- src/lib.rt:107:9
 add-i : tie.Need-add-i Inv-loop μ-loop
 add-i c = omega (arith, c .before .before .before .before .before .before .before .before .before .loop .inv .some, c .before .before .before .before .before .before .before .before .before .before .before .before .before .before .before .pre .most)
 
--- src/lib.rt:88:5
 loop-less : tie.Need-loop-less Inv-loop μ-loop
 loop-less c = omega (arith, c .before .before .before .before .before .before .before .before .loop-test .taken)
 
--- src/lib.rt:88:5
 loop-again : tie.Need-loop-again Inv-loop μ-loop
 loop-again c =
     let C = certificate-of (getD (c .before .before .before .before .before .before .before .before .before .before .before .before .before .before .before .args .t1 .certificates) (c .before .before .before .before .before .before .before .before .before .loop .i) no-certificate) in
@@ -146,35 +116,27 @@ loop-again c =
     subst⁻¹ (Walking (c .before .before .before .before .before .before .before .before .before .before .before .before .before .before .before .args .t1) (set (c .before .before .before .before .before .before .before .before .before .loop .levels) (c .before .before .before .before .before .before .before .before .before .loop .i) (r .level)) (r .expected) (r .any) (c .after2 .result)) (add-one (c .before .before .before .before .before .before .before .before .before .loop .i))
     (subst⁻¹ (λ b. Walking (c .before .before .before .before .before .before .before .before .before .before .before .before .before .before .before .args .t1) (set (c .before .before .before .before .before .before .before .before .before .loop .levels) (c .before .before .before .before .before .before .before .before .before .loop .i) (r .level)) (r .expected) b (c .after2 .result) (suc (c .before .before .before .before .before .before .before .before .before .loop .i))) (next-any C _ a) w)
 
--- src/lib.rt:109:13
 mul-c-2 : tie.Need-mul-c-2 Inv-loop μ-loop
 mul-c-2 c = omega (arith, c .before .loop .inv .some, c .before .before .before .before .before .before .before .pre .most)
 
--- src/lib.rt:109:13
 element-copy-out-c-2 : tie.Need-element-copy-out-c-2 Inv-loop μ-loop
 element-copy-out-c-2 c = omega (arith, c .before .loop .inv .some, c .before .before .before .before .before .before .before .pre .most)
 
--- src/lib.rt:110:9
 new-level-requires-2 : tie.Need-new-level-requires-2 Inv-loop μ-loop
 new-level-requires-2 c κs = (c .before .before .before .before .before .before .before .before .pre .policies _ (c .before .before .loop .inv .some), c .before .before .loop .inv .held)
 
--- src/lib.rt:111:9
 fault-requires-2 : tie.Need-fault-requires-2 Inv-loop μ-loop
 fault-requires-2 c κs = c .before .before .before .before .before .before .before .before .before .pre .mappings _ (c .before .before .before .loop .inv .some)
 
--- src/lib.rt:112:9
 explicit-at-end-requires : tie.Need-explicit-at-end-requires Inv-loop μ-loop
 explicit-at-end-requires c κs = Prim.tt
 
--- src/lib.rt:115:17
 add-t35 : tie.Need-add-t35 Inv-loop μ-loop
 add-t35 c = omega (arith, c .before .before .before .before .before .loop .inv .some, c .before .before .before .before .before .before .before .before .before .before .before .pre .most)
 
--- src/lib.rt:115:16
 cast-t39 : tie.Need-cast-t39 Inv-loop μ-loop
 cast-t39 c = omega (arith, c .before .before .before .before .before .loop .inv .some, c .before .before .before .before .before .before .before .before .before .before .before .pre .most)
 
--- src/lib.rt:72:1
 returns-2 : tie.Need-returns-2 Inv-loop μ-loop
 returns-2 c = (
   walk-ends _ (c .before .before .before .before .before .before .before .before .before .before .before .pre) (fits (c .before .before .before .before .before .before .before .before .before .before .before)) (c .before .before .before .before .before .loop .inv) (c .before .before .new-level2 .ensures) (end (c .before .before .before .before)) (c .before .fault2 .ensures) (add-one (c .before .before .before .before .before .loop .i)) (c .explicit-at-end .ensures) refl refl,

@@ -5,9 +5,6 @@ use borrow.Author.Needs.{needs}
 use Rattle.writer.proofs.Laws.{puts-one, room-one}
 use Rattle.writer.proofs.put.Statement.{statement}
 use Rattle.writer.proofs.put.Tie as tie
-use Rattle.writer.proofs.put.Reads as reads
-use Rattle.writer.proofs.put.Lts as lts
-use Rattle.bitfield.proofs.write_field.Reads as write-field-reads
 
 write-field-requires : tie.Need-write-field-requires
 write-field-requires c κs =

@@ -14,11 +14,6 @@ use Rattle.writer.proofs.Laws.{puts-length}
 use Rattle.writer.proofs.Sheet.{as-short, as-refused, as-put}
 use Rattle.writer.proofs.write.Statement.{statement}
 use Rattle.writer.proofs.write.Tie as tie
-use Rattle.writer.proofs.write.Reads as reads
-use Rattle.writer.proofs.write.Lts as lts
-use Rattle.bitfield.proofs.write_field.Reads as write-field-reads
-use Rattle.faults.proofs.path_fault.Reads as path-fault-reads
-use Rattle.writer.proofs.write_path.Reads as write-path-reads
 
 -- the places of the path's arrays
 places : (c : tie.Start) → (length (c .args .p .certificates) ≡ Limits.certificates) × (length (c .args .p .«user_policies») ≡ Limits.listed)

@@ -12,12 +12,6 @@ use Rattle.writer.proofs.Bound.{counted}
 use Rattle.writer.proofs.Laws.{Leaves, leaves-as, leaves-room, leaves-next, listed-part, mapped-part, skips, last-skips, certificate-parts}
 use Rattle.writer.proofs.write_certificate.Statement.{statement}
 use Rattle.writer.proofs.write_certificate.Tie as tie
-use Rattle.writer.proofs.write_certificate.Reads as reads
-use Rattle.writer.proofs.write_certificate.Lts as lts
-use Rattle.writer.proofs.write_flag.Reads as write-flag-reads
-use Rattle.writer.proofs.write_listed.Reads as write-listed-reads
-use Rattle.writer.proofs.write_mapped.Reads as write-mapped-reads
-use Rattle.writer.proofs.write_skip.Reads as write-skip-reads
 
 -- what is left to put
 abbrev Left : tie.Start → List ℕ → ℕ → List Field → Type 0

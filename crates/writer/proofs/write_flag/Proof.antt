@@ -5,9 +5,6 @@ use borrow.Author.Needs.{needs}
 use Rattle.writer.proofs.Laws.{room-same, puts-same, flag-set, flag-clear}
 use Rattle.writer.proofs.write_flag.Statement.{statement}
 use Rattle.writer.proofs.write_flag.Tie as tie
-use Rattle.writer.proofs.write_flag.Reads as reads
-use Rattle.writer.proofs.write_flag.Lts as lts
-use Rattle.writer.proofs.put.Reads as put-reads
 
 put-requires : tie.Need-put-requires
 put-requires c κs = (omega arith, room-same (flag-set (c .before .if1 .taken)) (c .before .before .before .pre))

@@ -10,11 +10,6 @@ use Rattle.rules.specs.Sheet.{Field, _#_, flag, policy-fields, listed-fields}
 use Rattle.writer.proofs.Laws.{room-same, puts-same, Leaves, leaves-as, leaves-room, leaves-next, listed-none, listed-some}
 use Rattle.writer.proofs.write_listed.Statement.{statement}
 use Rattle.writer.proofs.write_listed.Tie as tie
-use Rattle.writer.proofs.write_listed.Reads as reads
-use Rattle.writer.proofs.write_listed.Lts as lts
-use Rattle.writer.proofs.put.Reads as put-reads
-use Rattle.writer.proofs.write_flag.Reads as write-flag-reads
-use Rattle.writer.proofs.write_policies.Reads as write-policies-reads
 
 -- the policies present
 abbrev items : tie.Start → List Field

@@ -11,11 +11,6 @@ use Rattle.rules.specs.Sheet.{Field, _#_, flag, mapping-fields, mapped-fields}
 use Rattle.writer.proofs.Laws.{room-same, puts-same, Leaves, leaves-as, leaves-room, leaves-next, mapped-none, mapped-some}
 use Rattle.writer.proofs.write_mapped.Statement.{statement}
 use Rattle.writer.proofs.write_mapped.Tie as tie
-use Rattle.writer.proofs.write_mapped.Reads as reads
-use Rattle.writer.proofs.write_mapped.Lts as lts
-use Rattle.writer.proofs.put.Reads as put-reads
-use Rattle.writer.proofs.write_flag.Reads as write-flag-reads
-use Rattle.writer.proofs.write_mappings.Reads as write-mappings-reads
 
 -- the pairs present
 abbrev items : tie.Start → List Field

@@ -15,9 +15,6 @@ use Rattle.writer.specs.Fields.{Puts}
 use Rattle.writer.proofs.Laws.{Leaves, leaves-all, leaves-none, leaves-room, leaves-next, puts-length, mappings-left, mappings-end}
 use Rattle.writer.proofs.write_mappings.Statement.{statement}
 use Rattle.writer.proofs.write_mappings.Tie as tie
-use Rattle.writer.proofs.write_mappings.Reads as reads
-use Rattle.writer.proofs.write_mappings.Lts as lts
-use Rattle.writer.proofs.put.Reads as put-reads
 
 abbrev Inv-loop : tie.InvT-loop
 Inv-loop buffer₀ at issuers subjects count next₀ i₀ buffer next i =

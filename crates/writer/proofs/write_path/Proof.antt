@@ -13,12 +13,6 @@ use Rattle.writer.proofs.Bound.{Faultless, faultless, faultless-certifi
 use Rattle.writer.proofs.Laws.{puts-both, puts-length, Leaves, leaves-all, leaves-as, leaves-none, leaves-room, leaves-next, certificates-from, certificates-left, certificates-end, start-fields, user-part, certificates-part, path-parts}
 use Rattle.writer.proofs.write_path.Statement.{statement}
 use Rattle.writer.proofs.write_path.Tie as tie
-use Rattle.writer.proofs.write_path.Reads as reads
-use Rattle.writer.proofs.write_path.Lts as lts
-use Rattle.writer.proofs.put.Reads as put-reads
-use Rattle.writer.proofs.write_certificate.Reads as write-certificate-reads
-use Rattle.writer.proofs.write_policies.Reads as write-policies-reads
-use Rattle.writer.proofs.write_start.Reads as write-start-reads
 
 abbrev Inv-loop : tie.InvT-loop
 Inv-loop buffer₀ p n user-count counted users next₀ i₀ buffer next i =

@@ -9,9 +9,6 @@ use Rattle.writer.specs.Fields.{Puts}
 use Rattle.writer.proofs.Laws.{Leaves, leaves-all, leaves-none, leaves-room, leaves-next, puts-length, policies-left, policies-end}
 use Rattle.writer.proofs.write_policies.Statement.{statement}
 use Rattle.writer.proofs.write_policies.Tie as tie
-use Rattle.writer.proofs.write_policies.Reads as reads
-use Rattle.writer.proofs.write_policies.Lts as lts
-use Rattle.writer.proofs.put.Reads as put-reads
 
 abbrev Inv-loop : tie.InvT-loop
 Inv-loop buffer₀ at values count next₀ i₀ buffer next i =

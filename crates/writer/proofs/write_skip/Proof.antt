@@ -8,10 +8,6 @@ use Rattle.rules.specs.Sheet.{_#_, flag}
 use Rattle.writer.proofs.Laws.{room-same, room-first, room-next, puts-same, puts-both, skip-absent, skip-present}
 use Rattle.writer.proofs.write_skip.Statement.{statement}
 use Rattle.writer.proofs.write_skip.Tie as tie
-use Rattle.writer.proofs.write_skip.Reads as reads
-use Rattle.writer.proofs.write_skip.Lts as lts
-use Rattle.writer.proofs.put.Reads as put-reads
-use Rattle.writer.proofs.write_flag.Reads as write-flag-reads
 
 enum-told : tie.Need-enum-told
 enum-told c = search needs

@@ -8,10 +8,6 @@ use Rattle.rules.specs.Sheet.{Field, _#_, flag}
 use Rattle.writer.proofs.Laws.{Leaves, leaves-all, leaves-room, leaves-next}
 use Rattle.writer.proofs.write_start.Statement.{statement}
 use Rattle.writer.proofs.write_start.Tie as tie
-use Rattle.writer.proofs.write_start.Reads as reads
-use Rattle.writer.proofs.write_start.Lts as lts
-use Rattle.writer.proofs.put.Reads as put-reads
-use Rattle.writer.proofs.write_flag.Reads as write-flag-reads
 
 -- what is left to put
 abbrev Left : tie.Start → List ℕ → ℕ → List Field → Type 0

@@ -2,6 +2,7 @@
 use native.Mathlib.Omega.{arith}
 use mathlib.Core.Path.{_≡_}
 use lib.ListN.{length}
+use Rattle.rules.specs.Limits as Limits
 use Rattle.judge.proofs.Exported.{short-authority, short-user, short-counts, exports}
 use borrow.Author.Needs.{needs}
 use Rattle.judge.proofs.c.skandrulo_judge_sheet.Statement.{statement}
@@ -23,7 +24,7 @@ slice-aggregate-copy : tie.Need-slice-aggregate-copy
 slice-aggregate-copy c = search needs
 
 copy-requires : tie.Need-copy-requires
-copy-requires c κs = let h : length (c .before .before .before .before .before .before .before .judge-sheet .result .counts) ≡ 11 = search needs in omega arith
+copy-requires c κs = let h : length (c .before .before .before .before .before .before .before .judge-sheet .result .counts) ≡ Limits.depths = search needs in omega arith
 
 cast-result : tie.Need-cast-result
 cast-result c = search needs
