@@ -3,6 +3,7 @@
 
 pub mod answer;
 pub mod counters;
+pub mod decoded;
 pub mod graph;
 #[cfg(feature = "library")]
 pub mod judge;

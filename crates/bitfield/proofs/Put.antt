@@ -11,7 +11,7 @@ use native.Mathlib.Numerals.{add-one}
 use lib.ListN.{length, getD, set, length-set, List·getD-eq-default}
 use lib.Seq.{ext-getD, getD-set-same, getD-set-other}
 use borrow.Author.Tests.{ltb-true, ltb-false, eqb-true, eqb-false, lt-ltb, le-ltb, le-leb, lt-leb}
-use Rattle.rules.proofs.Sets.{by-cases, and-false}
+use Rattle.laws.proofs.Sets.{by-cases, and-false}
 use lib.Pow.{pow-pos, pow-add, mod-pow-add, shr-shr, shr-lt, shr-mod, shl-exact, pow-mono, high}
 use lib.Arith.{digits-lt}
 use Rattle.rules.specs.Sets.{pick}

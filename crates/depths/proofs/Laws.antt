@@ -17,7 +17,7 @@ use Rattle.rules.specs.Counters.{Counters}
 use Rattle.rules.specs.Limits as Limits
 use Rattle.rules.specs.Layout.{pairs, certificate-of, placed}
 use Rattle.rules.specs.Answers.{maps-any, any-allowed}
-use Rattle.rules.proofs.Sets.{eqb-sym, pick-ap}
+use Rattle.laws.proofs.Sets.{eqb-sym, pick-ap}
 use Rattle.sets.specs.declared.Set.{Set}
 use Rattle.sets.specs.Set.{Ascends, stored, picked}
 use Rattle.sets.proofs.Laws.{in-use, stored-len, stored-items, placed-is}

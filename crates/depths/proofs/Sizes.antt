@@ -12,7 +12,7 @@ use Rattle.rules.specs.Sets.{pick, _∈_, select, ascending}
 use Rattle.rules.specs.Paths.{Certificate, any, listed}
 use Rattle.rules.specs.Counters.{Counters}
 use Rattle.rules.specs.Answers.{any-allowed}
-use Rattle.rules.proofs.Sets.{by-cases, clash, and-false, and-out, and-in, or-out, or-left, or-right, not-out, mem-append, mem-select, mem-ascending, Subset, Unique, unique-select, sorted-unique, pigeonhole, others, any-listed, length-select}
+use Rattle.laws.proofs.Sets.{by-cases, clash, and-false, and-out, and-in, or-out, or-left, or-right, not-out, mem-append, mem-select, mem-ascending, Subset, Unique, unique-select, sorted-unique, pigeonhole, others, any-listed, length-select}
 use Rattle.levels.proofs.Levels.{Level, union, within, without, listed-set, issuer-set, subjects-from, policies, new-level, mapped, expected, kept, has-child, size, none}
 use Rattle.sets.specs.Set.{Ascends}
 use Rattle.rules.specs.Limits as Limits

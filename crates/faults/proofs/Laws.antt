@@ -9,7 +9,7 @@ use lib.Dec.{eqb, ltb}
 use lib.ListN.{length, take, drop, getD, length-take, drop-of-length-le}
 use lib.Seq.{slice, slice-cons, take-suc}
 use borrow.Author.Tests.{eq-eqb, ne-eqb, lt-ltb, le-ltb}
-use Rattle.rules.proofs.Sets.{or-left}
+use Rattle.laws.proofs.Sets.{or-left}
 use Rattle.rules.specs.declared.Certificate.{Certificate}
 use Rattle.rules.specs.declared.Path.{Path}
 use Rattle.rules.specs.Limits as Limits

@@ -19,7 +19,7 @@ use Rattle.rules.specs.Paths.{any}
 use Rattle.rules.specs.Faults.{path-fault}
 use Rattle.rules.specs.Answers.{Answer, failed}
 use Rattle.rules.specs.Judge.{Outcome, outcome, verdict, refusal, unless-short, unless-fault, path-judged}
-use Rattle.rules.proofs.Sets.{In, here, there, mem-ascending, or-left, or-right}
+use Rattle.laws.proofs.Sets.{In, here, there, mem-ascending, or-left, or-right}
 use Rattle.rules.specs.Graph as Graph
 use Rattle.levels.proofs.Levels.{Level, within, user-of, conclude, counts-of, authority-of, pruned}
 use Rattle.levels.proofs.Levels as Levels

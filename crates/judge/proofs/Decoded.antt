@@ -14,7 +14,7 @@ use Rattle.rules.specs.Faults.{path-fault}
 use Rattle.rules.specs.Graph as Graph
 use Rattle.rules.specs.Tree as Tree
 use Rattle.rules.specs.Judge.{outcome, path-judged, Bounded}
-use Rattle.rules.proofs.Same.{WellFormed}
+use Rattle.agreement.proofs.Same.{WellFormed}
 use Rattle.sheet.proofs.WellFormed.{decoded-well-formed}
 use Rattle.judge.proofs.Numbered.{path-numbered}
 use Rattle.judge.proofs.Promise.{outcome-number, outcome-counts, Settled, well-formed-settled, empty-settled, path-tree, path-bounded}

@@ -15,8 +15,8 @@ use Rattle.rules.specs.Sets.{pick}
 use Rattle.rules.specs.Graph as Graph
 use Rattle.rules.specs.Sheet.{read-sheet}
 use Rattle.rules.specs.Judge.{Outcome, outcome, after-reading, sheet-judged}
-use Rattle.rules.proofs.Sets.{or-left, or-right}
-use Rattle.judge.specs.Face.{Judged, exported, sheet-exported}
+use Rattle.laws.proofs.Sets.{or-left, or-right}
+use Rattle.rules.specs.Face.{Judged, exported, sheet-exported}
 use Rattle.judge.proofs.Sheets.{sheet-long}
 
 abbrev pub judged : ℕ → List ℕ → List ℕ → List ℕ → Judged

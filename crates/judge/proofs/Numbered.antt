@@ -22,7 +22,7 @@ use Rattle.rules.specs.Faults as Faults
 use Rattle.rules.specs.Faults.{_or-else_}
 use Rattle.rules.specs.Sheet.{Read, refused, read, _then_, checked, read-field, read-flag, read-policies, read-mappings, read-listed, read-mapped, read-skip, read-certificate, read-certificates, read-path, read-sheet, ends-at}
 use Rattle.rules.specs.Judge.{Outcome, refusal, verdict, unless-short, after-reading, sheet-judged, unless-fault, path-judged}
-use Rattle.rules.proofs.Sets.{by-cases}
+use Rattle.laws.proofs.Sets.{by-cases}
 
 -- the faults of a field are at most 5
 

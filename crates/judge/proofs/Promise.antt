@@ -20,9 +20,9 @@ use Rattle.rules.specs.Tree as Tree
 use Rattle.rules.specs.Sheet.{Read, refused, read, read-sheet}
 use Rattle.rules.specs.declared.Answer.{Answer as StoredAnswer}
 use Rattle.rules.specs.Judge.{Outcome, outcome, refusal, verdict, unless-short, after-reading, sheet-judged, unless-fault, path-judged, Bounded}
-use Rattle.rules.proofs.Sets.{by-cases}
-use Rattle.rules.proofs.Same.{WellFormed, judged-same}
-use Rattle.rules.proofs.Bound.{depth-bound}
+use Rattle.laws.proofs.Sets.{by-cases}
+use Rattle.agreement.proofs.Same.{WellFormed, judged-same}
+use Rattle.agreement.proofs.Bound.{depth-bound}
 
 -- what demand 3 says of a path: graph and tree agree on it, and the counts keep the bound
 pub record Settled (p : Path) : Type 0 where

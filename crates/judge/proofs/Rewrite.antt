@@ -19,7 +19,7 @@ use Rattle.sheet.proofs.Bits.{Bytes}
 use Rattle.sheet.proofs.Sheet.{read-writable, written-read}
 use Rattle.sheet.proofs.Longest.{accepted-fits}
 use Rattle.sheet.proofs.Decoded.{placed-back, placed-no-fault}
-use Rattle.judge.specs.Face.{Rewritten, rewritten-as, sheet-rewritten}
+use Rattle.rules.specs.Face.{Rewritten, rewritten-as, sheet-rewritten}
 use Rattle.judge.proofs.Read.{Accepted, accepted, refuses-as}
 
 abbrev pub wrote-as : ℕ → ℕ → List ℕ → Written

@@ -20,11 +20,11 @@ use Rattle.rules.specs.Graph as Graph
 use Rattle.rules.specs.Tree as Tree
 use Rattle.rules.specs.Sheet.{Read, refused, read, read-sheet, reading}
 use Rattle.rules.specs.Judge.{Outcome, outcome, refusal, verdict, unless-short, after-reading, sheet-judged, path-judged, Bounded}
-use Rattle.rules.proofs.Sets.{or-left, or-right}
+use Rattle.laws.proofs.Sets.{or-left, or-right}
 use Rattle.sheet.proofs.Sheet.{read-writable}
 use Rattle.sheet.proofs.Decoded.{placed-back, placed-no-fault}
 use Rattle.sheet.proofs.WellFormed.{well-formed}
-use Rattle.judge.specs.Face.{refused-answer}
+use Rattle.rules.specs.Face.{refused-answer}
 use Rattle.judge.proofs.Numbered.{sheet-numbered, path-numbered}
 use Rattle.judge.proofs.Promise.{outcome-number, outcome-counts, Settled, well-formed-settled, sheet-tree, sheet-bounded, path-tree, path-bounded}
 use Rattle.judge.proofs.Read.{Accepted, accepted, refuses-as}

@@ -1,6 +1,6 @@
 // The judge and the sheet's codec for C and Rust: numbers and slices alone.
 ghost use mathlib.Core.Path.{_≡_};
-ghost use Rattle.judge.specs.Face.{Judged, sheet-exported, Rewritten, sheet-rewritten};
+ghost use Rattle.rules.specs.Face.{Judged, sheet-exported, Rewritten, sheet-rewritten};
 use crate::judge_sheet;
 use rules::DEPTHS;
 use rules::SHEET_BYTES;

@@ -10,7 +10,7 @@ ghost use Rattle.rules.specs.Paths.{Path as RulesPath};
 ghost use Rattle.rules.specs.Layout.{path-of};
 ghost use Rattle.rules.specs.Sheet.{read-sheet, read};
 ghost use Rattle.rules.specs.Judge.{outcome, sheet-judged, path-judged, Bounded};
-ghost use Rattle.judge.specs.Face.{refused-answer};
+ghost use Rattle.rules.specs.Face.{refused-answer};
 pub use c::skandrulo_judge_sheet;
 pub use c::skandrulo_rewrite_sheet;
 use rules::Answer;

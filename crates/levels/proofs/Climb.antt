@@ -10,9 +10,9 @@ use Rattle.rules.specs.Paths.{Certificate}
 use Rattle.rules.specs.Counters.{Counters}
 use Rattle.rules.specs.Graph as Graph
 use Rattle.rules.specs.Graph.{Node, Level, first, pruned, has-child}
-use Rattle.rules.proofs.Sets.{clash, is-false, some-out, some-in, select-same, In-select}
-use Rattle.rules.proofs.Unfold.{Step, Chain}
-use Rattle.rules.proofs.Steps.{Inv, add-extended}
+use Rattle.laws.proofs.Sets.{clash, is-false, some-out, some-in, select-same, In-select}
+use Rattle.agreement.proofs.Unfold.{Step, Chain}
+use Rattle.agreement.proofs.Steps.{Inv, add-extended}
 
 -- the levels above B, from the deepest up, without their childless nodes
 unfoldable pub climb : Level → List Level → List Level

@@ -14,8 +14,8 @@ use Rattle.rules.specs.Sets.{pick, _∈_, select, some-of, empty}
 use Rattle.rules.specs.Paths.{any, Certificate, issuers}
 use Rattle.rules.specs.Graph as Graph
 use Rattle.rules.specs.Graph.{Node, Level, policies, only-any}
-use Rattle.rules.proofs.Sets.{by-cases, agree, and-in, and-out, or-left, or-right, or-out, or-false, not-in, not-out, eqb-same, In, here, In-select, In-cons, In-mem, mem-one, mem-append, mem-select, some-out, some-in, select-same, empty-mem, Unique, unique-append, sorted-unique, ascending-same, length-ascending}
-use Rattle.rules.proofs.Outputs.{only-any-mem}
+use Rattle.laws.proofs.Sets.{by-cases, agree, and-in, and-out, or-left, or-right, or-out, or-false, not-in, not-out, eqb-same, In, here, In-select, In-cons, In-mem, mem-one, mem-append, mem-select, some-out, some-in, select-same, empty-mem, Unique, unique-append, sorted-unique, ascending-same, length-ascending}
+use Rattle.agreement.proofs.Outputs.{only-any-mem}
 use Rattle.levels.proofs.Levels as Levels
 use Rattle.levels.proofs.Laws.{mem-issuer-set, issuers-to-out, issuers-to-in, Ascending, kept-ascending}
 use Rattle.levels.proofs.Climb.{climb}

@@ -9,7 +9,7 @@ use Rattle.rules.specs.Sets.{pick, _∈_, select}
 use Rattle.rules.specs.Paths.{any, Certificate, Mapping, listed, issuers, subjects}
 use Rattle.rules.specs.Counters.{Counters}
 use Rattle.rules.specs.Answers.{any-allowed}
-use Rattle.rules.proofs.Sets.{eqb-same, pick-ap, In, In-select, select-In, In-map, map-In, In-mem, mem-In, mem-append, mem-select, mem-pick, mem-ascending, mem-distinct, Sorted, sorted-ascending, sorted-select}
+use Rattle.laws.proofs.Sets.{eqb-same, pick-ap, In, In-select, select-In, In-map, map-In, In-mem, mem-In, mem-append, mem-select, mem-pick, mem-ascending, mem-distinct, Sorted, sorted-ascending, sorted-select}
 use Rattle.levels.proofs.Levels as Levels
 
 mem-union : (p : ℕ) (xs ys : List ℕ) → p ∈ Levels.union xs ys ≡ (p ∈ xs || p ∈ ys)

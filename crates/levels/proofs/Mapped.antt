@@ -14,9 +14,9 @@ use Rattle.rules.specs.Counters.{Counters}
 use Rattle.rules.specs.Answers.{maps-any}
 use Rattle.rules.specs.Graph as Graph
 use Rattle.rules.specs.Graph.{Node, Level, policies, has-child}
-use Rattle.rules.proofs.Sets.{by-cases, agree, and-in, and-out, and-true, and-false, or-left, or-right, or-out, or-false, not-in, not-out, In, here, there, In-select, some-out, some-in}
-use Rattle.rules.proofs.Unfold.{Step}
-use Rattle.rules.proofs.Steps.{Inv, map-inv, map-length, deepest-mapped, mapped-level, issuers-not-any, subjects-not-any}
+use Rattle.laws.proofs.Sets.{by-cases, agree, and-in, and-out, and-true, and-false, or-left, or-right, or-out, or-false, not-in, not-out, In, here, there, In-select, some-out, some-in}
+use Rattle.agreement.proofs.Unfold.{Step}
+use Rattle.agreement.proofs.Steps.{Inv, map-inv, map-length, deepest-mapped, mapped-level, issuers-not-any, subjects-not-any}
 use Rattle.levels.proofs.Levels as Levels
 use Rattle.levels.proofs.Laws.{mem-policies, removed-inherited-mem, removed-under-mem, mapped-under-mem, mapped-inherited, mem-expected, subjects-from-out, subjects-from-in}
 use Rattle.levels.proofs.Climb.{Late, removed-late, mapped-late, late-step}

@@ -18,11 +18,11 @@ use Rattle.rules.specs.Counters.{Counters}
 use Rattle.rules.specs.Answers.{any-allowed}
 use Rattle.rules.specs.Graph as Graph
 use Rattle.rules.specs.Graph.{Node, Level, policies, expecting, any-node, parents-of, only-any, new-level, has-child}
-use Rattle.rules.proofs.Sets.{by-cases, clash, is-false, and-in, and-out, and-true, or-right, or-false, or-none, not-in, not-out, not-not, eqb-same, eqb-sym, pick-ap, In, In-append, In-snoc, In-select, In-map, map-In, In-mem, mem-In, mem-select, mem-each, mem-map, mem-append, mem-ascending, some-out, some-in, some-same, some-append, Unique}
-use Rattle.rules.proofs.Unfold.{Step, step-select}
-use Rattle.rules.proofs.Steps.{Sound, In-policies, hung, hang, In-hang, missing, mapped, mapped-level}
-use Rattle.rules.proofs.Outputs.{only-any-mem}
-use Rattle.rules.proofs.Steps.{policies-hang, policies-append, empty-policies, parents-own, parents-none, parents-some}
+use Rattle.laws.proofs.Sets.{by-cases, clash, is-false, and-in, and-out, and-true, or-right, or-false, or-none, not-in, not-out, not-not, eqb-same, eqb-sym, pick-ap, In, In-append, In-snoc, In-select, In-map, map-In, In-mem, mem-In, mem-select, mem-each, mem-map, mem-append, mem-ascending, some-out, some-in, some-same, some-append, Unique}
+use Rattle.agreement.proofs.Unfold.{Step, step-select}
+use Rattle.agreement.proofs.Steps.{Sound, In-policies, hung, hang, In-hang, missing, mapped, mapped-level}
+use Rattle.agreement.proofs.Outputs.{only-any-mem}
+use Rattle.agreement.proofs.Steps.{policies-hang, policies-append, empty-policies, parents-own, parents-none, parents-some}
 
 pub record Mirrors (A B : Level) (I U : ℕ → Bool) : Type 0 where
   pub step : Step A B

@@ -15,14 +15,14 @@ use Rattle.rules.specs.Answers.{Answer, failed, maps-any, any-allowed}
 use Rattle.rules.specs.Numbers as Numbers
 use Rattle.rules.specs.Graph as Graph
 use Rattle.rules.specs.Graph.{Level, policies, new-level, pruned, first}
-use Rattle.rules.proofs.Sets.{by-cases, agree, or-false, In, here, there, mem-append, mem-select, mem-ascending, ascending-same, Sorted, sorted-ascending, sorted-select, sorted-same, Unique, empty-out}
-use Rattle.rules.proofs.Unfold.{Step, Chain}
-use Rattle.rules.proofs.Steps.{Inv, add-extended, add-inv}
-use Rattle.rules.proofs.Same.{answer, graph-authority, graph-conclude, graph-run, graph-judged, test-9-passed, added, empty-nil, start-length, start-inv, WellFormed}
+use Rattle.laws.proofs.Sets.{by-cases, agree, or-false, In, here, there, mem-append, mem-select, mem-ascending, ascending-same, Sorted, sorted-ascending, sorted-select, sorted-same, Unique, empty-out}
+use Rattle.agreement.proofs.Unfold.{Step, Chain}
+use Rattle.agreement.proofs.Steps.{Inv, add-extended, add-inv}
+use Rattle.agreement.proofs.Same.{answer, graph-authority, graph-conclude, graph-run, graph-judged, test-9-passed, added, empty-nil, start-length, start-inv, WellFormed}
 use Rattle.levels.proofs.Levels as Levels
 use Rattle.levels.proofs.Laws.{Ascending, new-inherited-mem, new-under-mem, new-ascending, mapped-ascending, expected-ascending}
-use Rattle.rules.proofs.Steps.{gone-deepest, pruned-none}
-use Rattle.rules.proofs.Outputs.{under-root}
+use Rattle.agreement.proofs.Steps.{gone-deepest, pruned-none}
+use Rattle.agreement.proofs.Outputs.{under-root}
 use Rattle.levels.proofs.Climb.{climb, unroll, unroll-append, Late, add-late, late-step}
 use Rattle.levels.proofs.Mirror.{Mirrors, Expects, awaits, mirrors-same, any-stands, new-mirrors, new-expects}
 use Rattle.levels.proofs.Mapped.{Reflects, Held, mappings-held, expected-same}

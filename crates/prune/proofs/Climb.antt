@@ -13,7 +13,7 @@ use Rattle.rules.specs.Limits as Limits
 use Rattle.rules.specs.Layout.{certificate-of, placed}
 use Rattle.rules.specs.Sets.{pick, _∈_, each, empty, ascending}
 use Rattle.rules.specs.Paths.{any}
-use Rattle.rules.proofs.Sets.{mem-append, mem-ascending, ascending-same}
+use Rattle.laws.proofs.Sets.{mem-append, mem-ascending, ascending-same}
 use Rattle.levels.proofs.Levels.{Level, union, kept, pruned, size, none, counts-of, authority-of}
 use Rattle.sets.specs.declared.Set.{Set}
 use Rattle.sets.specs.Set.{Ascends, stored}

@@ -9,7 +9,7 @@ use lib.ListN.{length}
 use borrow.Author.Tests.{eq-eqb, ne-eqb}
 use Rattle.rules.specs.Sets.{pick, _∈_, select, empty, ascending}
 use Rattle.rules.specs.Paths.{Certificate, any}
-use Rattle.rules.proofs.Sets.{and-false}
+use Rattle.laws.proofs.Sets.{and-false}
 use Rattle.levels.proofs.Levels.{Level, has-child, kept, issuer-set, issuers-to}
 use Rattle.sets.specs.Set.{Ascends, stored}
 use Rattle.depths.specs.declared.Level.{Level as StoredLevel}

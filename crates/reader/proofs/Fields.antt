@@ -16,7 +16,7 @@ use Rattle.rules.specs.Sets.{pick}
 use Rattle.rules.specs.Bits.{field}
 use Rattle.rules.specs.Sheet.{Read, refused, read, _then_, checked, read-field, read-flag}
 use Rattle.rules.specs.Faults.{edition-fault, n-fault, count-fault, present-fault, policy-fault, no-fault}
-use Rattle.rules.proofs.Sets.{or-false}
+use Rattle.laws.proofs.Sets.{or-false}
 use Rattle.reader.specs.declared.Number.{Number}
 use Rattle.reader.specs.declared.Flag.{Flag}
 use Rattle.reader.specs.Parts.{range-fault, as-number, as-flag, read-n}

@@ -11,7 +11,7 @@ use lib.ListN.{length, take, set, getD, replicate, length-append, length-replica
 use lib.Seq.{take-suc, take-append-seam, append-snoc, set-append-seam}
 use Rattle.rules.specs.Sets.{_∈_}
 use Rattle.rules.specs.Layout.{placed}
-use Rattle.rules.proofs.Sets.{mem-append, eqb-same, or-left, or-right}
+use Rattle.laws.proofs.Sets.{mem-append, eqb-same, or-left, or-right}
 
 pub mem-found : (vs : List ℕ) (i n : ℕ) → i < n → i < length vs → getD vs i 0 ∈ take n vs ≡ true
 unfolding _∈_

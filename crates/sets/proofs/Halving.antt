@@ -8,7 +8,7 @@ use lib.Dec.{eqb, ltb}
 use borrow.Author.Tests.{eqb-true, eq-eqb, ltb-true, ltb-false}
 use lib.ListN.{length, getD}
 use Rattle.rules.specs.Sets.{_∈_}
-use Rattle.rules.proofs.Sets.{by-cases, agree, is-false, In, here, there, In-mem, mem-In, Sorted}
+use Rattle.laws.proofs.Sets.{by-cases, agree, is-false, In, here, there, In-mem, mem-In, Sorted}
 
 mem-at : (xs : List ℕ) (i : ℕ) → i < length xs → getD xs i 0 ∈ xs ≡ true
 mem-at [] i h = absurd (omega arith)

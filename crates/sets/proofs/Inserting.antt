@@ -8,7 +8,7 @@ use borrow.Author.Tests.{lt-ltb, le-ltb, ne-eqb, eq-eqb}
 use lib.ListN.{length, take-append-drop, length-take, length-drop, take, drop, set, getD, length-append}
 use lib.Seq.{getD-at, set-at, drop-cons, append-snoc}
 use Rattle.rules.specs.Sets.{pick, insert}
-use Rattle.rules.proofs.Sets.{here, In-mem, Sorted}
+use Rattle.laws.proofs.Sets.{here, In-mem, Sorted}
 
 insert-none : (x : ℕ) → insert x [] ≡ x ∷ []
 unfolding insert

@@ -11,7 +11,7 @@ use Rattle.rules.specs.Limits as Limits
 use Rattle.rules.specs.Layout.{placed}
 use Rattle.levels.proofs.Levels.{union, within, without}
 use Rattle.rules.specs.Sets.{pick, _∈_, select, insert, ascending}
-use Rattle.rules.proofs.Sets.{sorted-select, length-select, mem-append, mem-ascending, Sorted, sorted-ascending, sorted-same}
+use Rattle.laws.proofs.Sets.{sorted-select, length-select, mem-append, mem-ascending, Sorted, sorted-ascending, sorted-same}
 use Rattle.sets.specs.declared.Set.{Set}
 use Rattle.sets.specs.Set.{Ascends, stored, picked}
 

@@ -12,7 +12,7 @@ use lib.ListN.{length, length-drop, drop-of-length-le, take, drop, set, getD, re
 use lib.Seq.{drop-cons, take-all, paste}
 use Rattle.levels.proofs.Levels.{union}
 use Rattle.rules.specs.Sets.{_∈_, ascending}
-use Rattle.rules.proofs.Sets.{or-out, Sorted, sorted-same}
+use Rattle.laws.proofs.Sets.{or-out, Sorted, sorted-same}
 use Rattle.sets.proofs.Laws.{sorted-ascends, union-is, mem-union, sorted-union}
 use Rattle.sets.proofs.Places.{Holds, holds-none, holds-push, holds-copy}
 

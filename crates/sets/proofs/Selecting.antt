@@ -8,7 +8,7 @@ use mathlib.Core.Path.{_≡_, refl, sym, ap, _∙_, subst, transport}
 use lib.ListN.{length, length-take, take, set, getD, replicate}
 use lib.Seq.{take-suc, take-all}
 use Rattle.rules.specs.Sets.{pick, select}
-use Rattle.rules.proofs.Sets.{length-select}
+use Rattle.laws.proofs.Sets.{length-select}
 use Rattle.sets.proofs.Places.{Holds, holds-none, holds-push}
 
 select-append : (f : ℕ → Bool) (xs ys : List ℕ) → select f (xs ++ ys) ≡ select f xs ++ select f ys

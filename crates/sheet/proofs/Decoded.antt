@@ -15,7 +15,7 @@ use Rattle.rules.specs.Paths.{Mapping, Certificate, Path}
 use Rattle.rules.specs.Layout.{pairs, certificate-of, path-of, placed, place-certificate, place-path, cleared}
 use Rattle.rules.specs.Faults.{listed-fault, user-fault, policies-fault, mappings-fault, path-fault}
 use Rattle.rules.specs.Sheet.{sheet-of, as-reading, reading}
-use Rattle.rules.proofs.Sets.{In, here, there, In-cons, In-map}
+use Rattle.laws.proofs.Sets.{In, here, there, In-cons, In-map}
 use Rattle.sheet.proofs.Faults.{n-passed, n-passes, count-passed, count-passes, user-passed, user-passes, no-repeats, listed-some, listed-accepted, mappings-passed, mappings-pass, CertificateParts, path-parts, path-whole}
 use Rattle.sheet.proofs.Writable.{SkipFits, WritableCertificate, Writable}
 use Rattle.sheet.proofs.Sheet.{read-written}

@@ -16,7 +16,7 @@ use Rattle.rules.specs.Sets.{pick, _∈_}
 use Rattle.rules.specs.Paths.{Mapping}
 use Rattle.rules.specs.Layout.{certificate-of, path-of}
 use Rattle.rules.specs.Faults.{edition-fault, n-fault, count-fault, present-fault, policy-fault, listed-fault, user-fault, _or-else_, policies-fault, mappings-fault, certificate-fault, certificates-fault, path-fault}
-use Rattle.rules.proofs.Sets.{by-cases, clash, is-false, or-none, or-left, or-right, or-false, In, here, there, In-cons, In-mem, mem-append, Unique}
+use Rattle.laws.proofs.Sets.{by-cases, clash, is-false, or-none, or-left, or-right, or-false, In, here, there, In-cons, In-mem, mem-append, Unique}
 
 -- a fault that is none because its test fails
 passed : (b : Bool) (k : ℕ) → 1 ≤ k → pick b k 0 ≡ 0 → b ≡ false

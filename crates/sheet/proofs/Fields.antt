@@ -13,7 +13,7 @@ use borrow.Author.Tests.{ltb-true, ltb-false}
 use Rattle.rules.specs.Sets.{each}
 use Rattle.rules.specs.Bits.{bit, number, field, bits-of}
 use Rattle.rules.specs.Sheet.{Field}
-use Rattle.rules.proofs.Sets.{by-cases, In, here, there, In-cons}
+use Rattle.laws.proofs.Sets.{by-cases, In, here, there, In-cons}
 use Rattle.sheet.proofs.Bits.{digit, number-digit, digit-number, number-lt, bits-length, getD-bits, Digits, digits-nil, digits-append, digits-bits, bit-binary}
 
 unfoldable pub Holds : List ℕ → ℕ → List Field → ℕ → Type 0

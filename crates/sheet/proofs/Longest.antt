@@ -11,7 +11,7 @@ use Rattle.rules.specs.Limits as Limits
 use Rattle.rules.specs.Sets.{each}
 use Rattle.rules.specs.Paths.{Mapping, Certificate, Path}
 use Rattle.rules.specs.Sheet.{read, read-sheet, Field, _#_, flag, policy-fields, listed-fields, mapping-fields, mapped-fields, skip-fields, certificate-fields, fields, sheet-of}
-use Rattle.rules.proofs.Sets.{In, here, there}
+use Rattle.laws.proofs.Sets.{In, here, there}
 use Rattle.sheet.proofs.Fields.{widths, widths-append, holds-end}
 use Rattle.sheet.proofs.Writable.{WritableCertificate, Writable}
 use Rattle.sheet.proofs.Whole.{in-order, laid, laid-fields}

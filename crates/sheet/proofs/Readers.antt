@@ -17,7 +17,7 @@ use Rattle.rules.specs.Bits.{field}
 use Rattle.rules.specs.Paths.{Mapping}
 use Rattle.rules.specs.Faults.{present-fault, policy-fault, listed-fault, no-fault, policies-fault}
 use Rattle.rules.specs.Sheet.{Read, refused, read, _then_, checked, read-field, read-flag, read-policies, read-mappings, read-listed, read-mapped, read-skip, Field, _#_, flag, policy-fields, listed-fields, mapping-fields, mapped-fields, skip-fields}
-use Rattle.rules.proofs.Sets.{by-cases}
+use Rattle.laws.proofs.Sets.{by-cases}
 use Rattle.sheet.proofs.Faults.{both, neither, policy-passed, policy-passes, present-passed, present-passes}
 use Rattle.sheet.proofs.Fields.{Holds, Fit, holds-append, holds-split, holds-fit, field-lt}
 

@@ -15,7 +15,7 @@ use Rattle.rules.specs.Sets.{pick}
 use Rattle.rules.specs.Bits.{bit, number, field, packed}
 use Rattle.rules.specs.Paths.{Path}
 use Rattle.rules.specs.Sheet.{refused, read, _then_, read-path, ends-at, read-sheet, Field, fields, sheet-of}
-use Rattle.rules.proofs.Sets.{and-in, and-out}
+use Rattle.laws.proofs.Sets.{and-in, and-out}
 use Rattle.sheet.proofs.Bits.{Bytes, digit, number-digit, number-zero, bit-binary, packed-length, packed-bit, packed-back}
 use Rattle.sheet.proofs.Fields.{Holds, bits, widths, bits-widths, digits-fields, before-or-not, holds-end, holds-within, holds-bits, bits-hold, field-number}
 use Rattle.sheet.proofs.Readers.{then-back, then-read, read-place, not-refused}

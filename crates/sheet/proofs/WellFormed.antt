@@ -11,8 +11,8 @@ use Rattle.rules.specs.Sets.{empty}
 use Rattle.rules.specs.Paths.{Certificate, Path}
 use Rattle.rules.specs.Layout.{certificate-of, path-of}
 use Rattle.rules.specs.Faults.{path-fault}
-use Rattle.rules.proofs.Sets.{In-map, Unique}
-use Rattle.rules.proofs.Same.{WellFormed}
+use Rattle.laws.proofs.Sets.{In-map, Unique}
+use Rattle.agreement.proofs.Same.{WellFormed}
 use Rattle.sheet.proofs.Faults.{n-passed, no-repeats, path-parts}
 use Rattle.sheet.proofs.Writable.{Writable}
 

@@ -13,7 +13,7 @@ use Rattle.rules.specs.Sets.{each}
 use Rattle.rules.specs.Paths.{Mapping, Certificate, Path}
 use Rattle.rules.specs.Faults.{edition-fault, n-fault, count-fault, user-fault}
 use Rattle.rules.specs.Sheet.{Read, read, _then_, read-field, read-flag, read-policies, read-listed, read-mapped, read-skip, read-certificate, read-certificates, read-path, Field, _#_, flag, policy-fields, listed-fields, mapping-fields, mapped-fields, skip-fields, certificate-fields, fields}
-use Rattle.rules.proofs.Sets.{In, here, there, In-cons, In-append, In-map, map-In, In-each, each-In, Unique}
+use Rattle.laws.proofs.Sets.{In, here, there, In-cons, In-append, In-map, map-In, In-each, each-In, Unique}
 use Rattle.sheet.proofs.Faults.{edition-passed, edition-passes, n-passed, n-passes, count-passed, count-passes, user-passed, user-passes, no-repeats, listed-some, listed-accepted}
 use Rattle.sheet.proofs.Fields.{Holds, Fit, holds-none, holds-append, holds-split}
 use Rattle.sheet.proofs.Readers.{then-back, then-read, read-value, read-place, Reads, renamed, reads-good, reads-field, reads-flag, reads-policies, reads-listed, reads-mapped, reads-skip, loop, reads-loop, Each, SomePair}

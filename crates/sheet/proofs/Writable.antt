@@ -5,7 +5,7 @@ use Rattle.rules.specs.declared.Skip.{Skip}
 use Rattle.rules.specs.declared.Skip.the-variants.{Absent, Certificates}
 use Rattle.rules.specs.Limits as Limits
 use Rattle.rules.specs.Paths.{Mapping, Certificate, Path}
-use Rattle.rules.proofs.Sets.{In, Unique}
+use Rattle.laws.proofs.Sets.{In, Unique}
 
 pub record Policy (p : ℕ) : Type 0 where
   pub some : 1 ≤ p

@@ -9,7 +9,7 @@ use lib.ListN.{length, length-map, length-drop, take, drop, getD, set, length-se
 use lib.Seq.{drop-cons, getD-take, getD-set-same, getD-set-other, length-take-le}
 use mathlib.Core.Logic.{_⊎_, inl, inr, ⊎-elim}
 use borrow.Author.Tests.{eq-eqb, ne-eqb, eqb-true, eqb-false}
-use Rattle.rules.proofs.Sets.{by-cases}
+use Rattle.laws.proofs.Sets.{by-cases}
 use Rattle.rules.specs.declared.Certificate.{Certificate as StoredCertificate}
 use Rattle.rules.specs.declared.Path.{Path as StoredPath}
 use Rattle.rules.specs.Limits as Limits

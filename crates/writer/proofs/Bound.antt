@@ -8,7 +8,7 @@ use lib.Dec.{ltb, eqb}
 use lib.ListN.{length, take, getD, length-take}
 use lib.Seq.{getD-take, length-take-le}
 use borrow.Author.Tests.{ltb-true, ltb-false, lt-ltb, eq-eqb}
-use Rattle.rules.proofs.Sets.{by-cases}
+use Rattle.laws.proofs.Sets.{by-cases}
 use Rattle.rules.specs.declared.Skip.{Skip}
 use Rattle.rules.specs.declared.Skip.the-variants.{Absent, Certificates}
 use Rattle.rules.specs.declared.Certificate.{Certificate as StoredCertificate}

@@ -7,7 +7,7 @@ use lib.ListN.{length, length-map}
 use lib.Seq.{length-take-le}
 use borrow.Author.Tests.{lt-ltb, le-ltb}
 use Rattle.rules.specs.Limits as Limits
-use Rattle.rules.proofs.Sets.{and-true, and-false}
+use Rattle.laws.proofs.Sets.{and-true, and-false}
 use Rattle.depths.proofs.Laws.{any-allowed-is}
 use borrow.Author.Needs.{needs}
 use Rattle.depths.proofs.any_allowed.Statement.{statement}

@@ -1,5 +1,5 @@
 -- `maps_any` meets its contract: a mapping names anyPolicy if the issuers or the subjects list it.
-use Rattle.rules.proofs.Sets.{or-left}
+use Rattle.laws.proofs.Sets.{or-left}
 use Prim.Native.Nat.{_≤_}
 use native.Mathlib.Omega.{arith}
 use mathlib.Core.Path.{_≡_, refl, sym, ap, ap₂, _∙_}

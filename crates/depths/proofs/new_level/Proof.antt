@@ -11,7 +11,7 @@ use lib.Seq.{length-take-le}
 use Rattle.rules.specs.Limits as Limits
 use Rattle.rules.specs.Paths.{any}
 use Rattle.rules.specs.Sets.{pick, select, ascending}
-use Rattle.rules.proofs.Sets.{length-select}
+use Rattle.laws.proofs.Sets.{length-select}
 use Rattle.levels.proofs.Levels.{within, without}
 use Rattle.sets.specs.Set.{Ascends, stored}
 use Rattle.sets.proofs.Laws.{in-use, length-ascending}

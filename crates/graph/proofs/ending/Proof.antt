@@ -2,7 +2,7 @@
 use mathlib.Core.Path.{_≡_, refl, sym, ap, ap₂, _∙_, subst, subst⁻¹}
 use borrow.Author.Tests.{eq-eqb, ne-eqb}
 use lib.Dec.{eqb}
-use Rattle.rules.proofs.Sets.{and-in}
+use Rattle.laws.proofs.Sets.{and-in}
 use Rattle.prune.proofs.Laws.{first-no, second-no}
 use Rattle.graph.proofs.Laws.{ended-yes, ended-no}
 use borrow.Author.Needs.{needs}

@@ -14,11 +14,14 @@ abbrev μ-loop : tie.MeasureT-loop
 loop-holds : tie.Need-loop-holds Inv-loop μ-loop
 loop-holds c = search needs
 
-mul-spaced : tie.Need-mul-spaced Inv-loop μ-loop
-mul-spaced c = search needs
+mul-wide-place : tie.Need-mul-wide-place Inv-loop μ-loop
+mul-wide-place c = search needs
 
-shared-slice-read-spaced : tie.Need-shared-slice-read-spaced Inv-loop μ-loop
-shared-slice-read-spaced c = search needs
+shared-slice-read-wide-place : tie.Need-shared-slice-read-wide-place Inv-loop μ-loop
+shared-slice-read-wide-place c = search needs
+
+wide-place-requires : tie.Need-wide-place-requires Inv-loop μ-loop
+wide-place-requires c κs = search needs
 
 spaced-requires : tie.Need-spaced-requires Inv-loop μ-loop
 spaced-requires c κs = search needs
@@ -42,8 +45,9 @@ counts-spec =
     Inv-loop
     μ-loop
     loop-holds
-    mul-spaced
-    shared-slice-read-spaced
+    mul-wide-place
+    shared-slice-read-wide-place
+    wide-place-requires
     spaced-requires
     add-i
     loop-less

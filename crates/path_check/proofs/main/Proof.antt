@@ -1,4 +1,4 @@
--- `main` ends: each turn takes one argument of those that are left.
+-- `main` ends: each turn takes one record of those that are left.
 use Prim.Native.Nat.{_≤_, _-_}
 use lib.ListN.{length}
 use borrow.Author.Needs.{needs}
@@ -6,19 +6,37 @@ use Rattle.path_check.proofs.main.Statement.{statement}
 use Rattle.path_check.proofs.main.Tie as tie
 
 abbrev Inv-loop : tie.InvT-loop
-Inv-loop count i₀ i = Unit {0}
+Inv-loop records i₀ i = i ≤ records
 
 abbrev μ-loop : tie.MeasureT-loop
-μ-loop count i₀ i = count - i
+μ-loop records i₀ i = records - i
 
-arg-count-requires : tie.Need-arg-count-requires Inv-loop μ-loop
-arg-count-requires c κs = search needs
+slice-aggregate-read-full : tie.Need-slice-aggregate-read-full Inv-loop μ-loop
+slice-aggregate-read-full c = search needs
+
+read-full-requires : tie.Need-read-full-requires Inv-loop μ-loop
+read-full-requires c κs = search needs
+
+slice-aggregate-number : tie.Need-slice-aggregate-number Inv-loop μ-loop
+slice-aggregate-number c = search needs
+
+number-requires : tie.Need-number-requires Inv-loop μ-loop
+number-requires c κs = search needs
 
 loop-holds : tie.Need-loop-holds Inv-loop μ-loop
 loop-holds c = search needs
 
-check-file-requires : tie.Need-check-file-requires Inv-loop μ-loop
-check-file-requires c κs = search needs
+slice-aggregate-read-full-2 : tie.Need-slice-aggregate-read-full-2 Inv-loop μ-loop
+slice-aggregate-read-full-2 c = search needs
+
+read-full-requires-2 : tie.Need-read-full-requires-2 Inv-loop μ-loop
+read-full-requires-2 c κs = search needs
+
+slice-aggregate-check : tie.Need-slice-aggregate-check Inv-loop μ-loop
+slice-aggregate-check c = search needs
+
+check-requires : tie.Need-check-requires Inv-loop μ-loop
+check-requires c κs = search needs
 
 add-i : tie.Need-add-i Inv-loop μ-loop
 add-i c = search needs
@@ -38,9 +56,15 @@ main-spec =
     (tie.spec
     Inv-loop
     μ-loop
-    arg-count-requires
+    slice-aggregate-read-full
+    read-full-requires
+    slice-aggregate-number
+    number-requires
     loop-holds
-    check-file-requires
+    slice-aggregate-read-full-2
+    read-full-requires-2
+    slice-aggregate-check
+    check-requires
     add-i
     loop-less
     loop-again

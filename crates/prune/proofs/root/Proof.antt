@@ -3,7 +3,7 @@ use mathlib.Core.Path.{_≡_, refl, sym, ap, ap₂, _∙_, subst, subst⁻¹}
 use mathlib.Core.Bool.{_&&_}
 use lib.Dec.{eqb}
 use borrow.Author.Tests.{eq-eqb, ne-eqb}
-use Rattle.rules.proofs.Sets.{and-in}
+use Rattle.laws.proofs.Sets.{and-in}
 use Rattle.depths.proofs.Laws.{pick-yes, pick-no}
 use Rattle.prune.proofs.Laws.{first-no, second-no}
 use Rattle.prune.proofs.root.Statement.{statement}

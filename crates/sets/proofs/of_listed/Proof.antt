@@ -7,7 +7,7 @@ use lib.ListN.{length, drop}
 use lib.Seq.{drop-length}
 use Rattle.rules.specs.Limits as Limits
 use Rattle.rules.specs.Sets.{select}
-use Rattle.rules.proofs.Sets.{other}
+use Rattle.laws.proofs.Sets.{other}
 use Rattle.sets.proofs.Places.{holds-stored}
 use Rattle.sets.proofs.Selecting.{select-none}
 use Rattle.sets.proofs.Gathering.{Gathered, gathered-none, gathered-length, gathered-ready, gathered-more, gathered-left, gathered-all, select-back-in, select-back-out}

@@ -6,7 +6,7 @@ use mathlib.Core.Logic.{⊎-elim}
 use lib.Dec.{eqb}
 use borrow.Author.Tests.{eq-eqb, ne-eqb}
 use Rattle.walk.proofs.Laws.{fault-8, fault-9, fault-0}
-use Rattle.rules.proofs.Sets.{and-in}
+use Rattle.laws.proofs.Sets.{and-in}
 use borrow.Author.Needs.{needs}
 use Rattle.walk.proofs.fault.Statement.{statement}
 use Rattle.walk.proofs.fault.Tie as tie

@@ -1,0 +1,118 @@
+use mathlib.Core.Path.{sym}
+use lib.Seq.{length-take-le}
+use borrow.Author.Needs.{needs}
+use Rattle.path_check.proofs.judged.Statement.{statement}
+use Rattle.path_check.proofs.judged.Tie as tie
+
+number-requires : tie.Need-number-requires
+number-requires c κs = search needs
+
+cast-least : tie.Need-cast-least
+cast-least c = search needs
+
+least-requires : tie.Need-least-requires
+least-requires c κs = search needs
+
+number-requires-2 : tie.Need-number-requires-2
+number-requires-2 c κs = search needs
+
+cast-least-2 : tie.Need-cast-least-2
+cast-least-2 c = search needs
+
+least-requires-2 : tie.Need-least-requires-2
+least-requires-2 c κs = search needs
+
+path-requires : tie.Need-path-requires
+path-requires c κs = search needs
+
+slice-relend-prefix-judge-path : tie.Need-slice-relend-prefix-judge-path
+slice-relend-prefix-judge-path c = search needs
+
+slice-aggregate-judge-path : tie.Need-slice-aggregate-judge-path
+slice-aggregate-judge-path c = sym (length-take-le _ _ (c .before .before .before .before .least .ensures))
+
+slice-relend-prefix-judge-path-2 : tie.Need-slice-relend-prefix-judge-path-2
+slice-relend-prefix-judge-path-2 c = search needs
+
+slice-aggregate-judge-path-2 : tie.Need-slice-aggregate-judge-path-2
+slice-aggregate-judge-path-2 c = sym (length-take-le _ _ (c .before .before .before .least2 .ensures))
+
+judge-path-requires : tie.Need-judge-path-requires
+judge-path-requires c κs = search needs
+
+slice-aggregate-text : tie.Need-slice-aggregate-text
+slice-aggregate-text c = search needs
+
+text-requires : tie.Need-text-requires
+text-requires c κs = search needs
+
+cast-spaced : tie.Need-cast-spaced
+cast-spaced c = search needs
+
+spaced-requires : tie.Need-spaced-requires
+spaced-requires c κs = search needs
+
+cast-spaced-2 : tie.Need-cast-spaced-2
+cast-spaced-2 c = search needs
+
+spaced-requires-2 : tie.Need-spaced-requires-2
+spaced-requires-2 c κs = search needs
+
+slice-aggregate-counts : tie.Need-slice-aggregate-counts
+slice-aggregate-counts c = search needs
+
+counts-requires : tie.Need-counts-requires
+counts-requires c κs = search needs
+
+table-digest-requires : tie.Need-table-digest-requires
+table-digest-requires c κs = search needs
+
+spaced-requires-3 : tie.Need-spaced-requires-3
+spaced-requires-3 c κs = search needs
+
+table-digest-requires-2 : tie.Need-table-digest-requires-2
+table-digest-requires-2 c κs = search needs
+
+spaced-requires-4 : tie.Need-spaced-requires-4
+spaced-requires-4 c κs = search needs
+
+same-length : tie.Need-same-length
+same-length c = search needs
+
+same-length-2 : tie.Need-same-length-2
+same-length-2 c = search needs
+
+returns : tie.Need-returns
+returns c = search needs
+
+pub judged-spec : {M : Type 1} → statement M
+judged-spec =
+    tie.close
+    (tie.spec
+    number-requires
+    cast-least
+    least-requires
+    number-requires-2
+    cast-least-2
+    least-requires-2
+    path-requires
+    slice-relend-prefix-judge-path
+    slice-aggregate-judge-path
+    slice-relend-prefix-judge-path-2
+    slice-aggregate-judge-path-2
+    judge-path-requires
+    slice-aggregate-text
+    text-requires
+    cast-spaced
+    spaced-requires
+    cast-spaced-2
+    spaced-requires-2
+    slice-aggregate-counts
+    counts-requires
+    table-digest-requires
+    spaced-requires-3
+    table-digest-requires-2
+    spaced-requires-4
+    same-length
+    same-length-2
+    returns)

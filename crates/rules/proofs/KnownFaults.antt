@@ -1,0 +1,160 @@
+-- Paths handed over decoded with known refusals, and the faults of single fields.
+-- For each one table, and one claim that covers every row, by computation. The places of a path that are not given hold faults of their own.
+use Prim.Native.Nat.{ℕ}
+use mathlib.Core.Bool.{false}
+use mathlib.Core.List.{List, [], _∷_, map}
+use mathlib.Core.Path.{_≡_, refl}
+use lib.ListN.{replicate}
+use Rattle.rules.specs.declared.Certificate.{Certificate as StoredCertificate}
+use Rattle.rules.specs.declared.Path.{Path as StoredPath}
+use Rattle.rules.specs.Faults.{edition-fault, n-fault, count-fault, present-fault, policy-fault, user-fault, listed-fault, no-fault, _or-else_, path-fault}
+use Rattle.rules.proofs.Notation.{stored-plain, stored-path}
+
+-- a field's fault and the number expected
+pub record FieldRow : Type 0 where
+  pub fault : ℕ
+  pub number : ℕ
+
+_is_ : ℕ → ℕ → FieldRow
+f is k = record { fault = f; number = k }
+
+infix 30 _is_
+unfoldable pub field-rows : List FieldRow
+unfolding _is_ edition-fault n-fault count-fault present-fault policy-fault user-fault listed-fault no-fault _or-else_
+field-rows =
+    -- "edition is not 1"
+    (edition-fault 0 is 2)
+    ∷ (edition-fault 1 is 0)
+    ∷ (edition-fault 2 is 2)
+    -- "n is 0 or above 10"
+    ∷ (n-fault 0 is 3)
+    ∷ (n-fault 1 is 0)
+    ∷ (n-fault 10 is 0)
+    ∷ (n-fault 11 is 3)
+    -- "user count above 16"
+    ∷ (count-fault 0 is 0)
+    ∷ (count-fault 16 is 0)
+    ∷ (count-fault 17 is 3)
+    -- "a certificate's present count 0 or above 16"
+    ∷ (present-fault 0 is 3)
+    ∷ (present-fault 1 is 0)
+    ∷ (present-fault 16 is 0)
+    ∷ (present-fault 17 is 3)
+    -- "a policy is 0, in any list"
+    ∷ (policy-fault 0 is 4)
+    ∷ (policy-fault 1 is 0)
+    ∷ (policy-fault 65535 is 0)
+    -- a user policy may repeat
+    ∷ (user-fault (7 ∷ []) 0 is 4)
+    ∷ (user-fault (7 ∷ []) 7 is 0)
+    -- "a policy repeats within one certificate's policies"
+    ∷ (listed-fault (6 ∷ 7 ∷ []) 7 is 5)
+    ∷ (listed-fault (6 ∷ 7 ∷ []) 8 is 0)
+    -- "4 before 5"
+    ∷ (listed-fault (0 ∷ []) 0 is 4)
+    -- a flag and a skip value have no fault
+    ∷ (no-fault 0 is 0)
+    ∷ (no-fault 255 is 0)
+    -- the first fault of two
+    ∷ (3 or-else 4 is 3)
+    ∷ (0 or-else 4 is 4)
+    ∷ (3 or-else 0 is 3)
+    ∷ []
+
+-- Every field's fault is the number expected.
+pub known-field-faults : map (λ r. r .fault) field-rows ≡ map (λ r. r .number) field-rows
+unfolding field-rows
+known-field-faults = refl
+
+pub record Row : Type 0 where
+  pub path : StoredPath
+  pub number : ℕ
+
+-- a count and the user policies, a count and the certificates, and the number expected
+row : ℕ → List ℕ → ℕ → List StoredCertificate → ℕ → Row
+unfolding stored-path
+row uc us n cs k = record { path = stored-path false false false uc us n cs; number = k }
+
+-- a certificate with no fault
+good : StoredCertificate
+unfolding stored-plain
+good = stored-plain 1 (5 ∷ []) 1 (5 ∷ []) (6 ∷ [])
+
+sixteen : List ℕ
+sixteen = 1 ∷ 2 ∷ 3 ∷ 4 ∷ 5 ∷ 6 ∷ 7 ∷ 8 ∷ 9 ∷ 10 ∷ 11 ∷ 12 ∷ 13 ∷ 14 ∷ 15 ∷ 16 ∷ []
+
+unfoldable pub rows : List Row
+unfolding row good sixteen stored-plain
+rows =
+    -- no fault: the places after each count never matter
+    row 1 (30 ∷ []) 1 (good ∷ []) 0
+    -- no fault: "a count of 0 policies or pairs being absence"
+    ∷ row 0 [] 1 (stored-plain 0 [] 0 [] [] ∷ []) 0
+    -- no fault: repeats among user policies and pairs, and of a policy in two certificates
+    ∷ row 2 (30 ∷ 30 ∷ []) 2 (stored-plain 1 (5 ∷ []) 2 (5 ∷ 5 ∷ []) (6 ∷ 6 ∷ []) ∷ good ∷ []) 0
+    -- no fault: ten certificates, and sixteen of each list
+    ∷ row 16 sixteen 10 (replicate 10 (stored-plain 16 sixteen 16 sixteen sixteen)) 0
+    -- no certificate
+    ∷ row 0 [] 0 [] 3
+    -- eleven certificates
+    ∷ row 0 [] 11 (replicate 10 good) 3
+    -- seventeen user policies
+    ∷ row 17 sixteen 1 (good ∷ []) 3
+    -- seventeen policies
+    ∷ row 0 [] 1 (stored-plain 17 sixteen 0 [] [] ∷ []) 3
+    -- seventeen pairs
+    ∷ row 0 [] 1 (stored-plain 0 [] 17 sixteen sixteen ∷ []) 3
+    -- a user policy 0, the first and the last in use
+    ∷ row 2 (0 ∷ 30 ∷ []) 1 (good ∷ []) 4
+    ∷ row 2 (30 ∷ 0 ∷ []) 1 (good ∷ []) 4
+    -- a policy 0, the first and the last in use
+    ∷ row 0 [] 1 (stored-plain 2 (0 ∷ 5 ∷ []) 0 [] [] ∷ []) 4
+    ∷ row 0 [] 1 (stored-plain 2 (5 ∷ 0 ∷ []) 0 [] [] ∷ []) 4
+    -- an issuer 0, and a subject 0, in the first and the last pair
+    ∷ row 0 [] 1 (stored-plain 0 [] 2 (0 ∷ 5 ∷ []) (6 ∷ 6 ∷ []) ∷ []) 4
+    ∷ row 0 [] 1 (stored-plain 0 [] 2 (5 ∷ 0 ∷ []) (6 ∷ 6 ∷ []) ∷ []) 4
+    ∷ row 0 [] 1 (stored-plain 0 [] 2 (5 ∷ 5 ∷ []) (0 ∷ 6 ∷ []) ∷ []) 4
+    ∷ row 0 [] 1 (stored-plain 0 [] 2 (5 ∷ 5 ∷ []) (6 ∷ 0 ∷ []) ∷ []) 4
+    -- a policy repeated, and one not next to itself
+    ∷ row 0 [] 1 (stored-plain 2 (5 ∷ 5 ∷ []) 0 [] [] ∷ []) 5
+    ∷ row 0 [] 1 (stored-plain 3 (5 ∷ 6 ∷ 5 ∷ []) 0 [] [] ∷ []) 5
+    -- a fault of the last certificate
+    ∷ row 0 [] 2 (good ∷ stored-plain 2 (5 ∷ 5 ∷ []) 0 [] [] ∷ []) 5
+    -- two faults: n before the user policies, 0 and 11
+    ∷ row 1 (0 ∷ []) 0 [] 3
+    ∷ row 1 (0 ∷ []) 11 (replicate 10 good) 3
+    -- two faults: n before the certificates
+    ∷ row 0 [] 11 (replicate 10 (stored-plain 2 (5 ∷ 5 ∷ []) 0 [] [])) 3
+    -- two faults: the user count before the user policies
+    ∷ row 17 (0 ∷ []) 1 (good ∷ []) 3
+    -- two faults: the user count before a certificate
+    ∷ row 17 sixteen 1 (stored-plain 2 (5 ∷ 5 ∷ []) 0 [] [] ∷ []) 3
+    -- two faults: the user policies before a certificate's count, and before its policies
+    ∷ row 1 (0 ∷ []) 1 (stored-plain 17 sixteen 0 [] [] ∷ []) 4
+    ∷ row 1 (0 ∷ []) 1 (stored-plain 2 (5 ∷ 5 ∷ []) 0 [] [] ∷ []) 4
+    -- two faults: the policy count before the policies, 0 and repeated
+    ∷ row 0 [] 1 (stored-plain 17 (0 ∷ []) 0 [] [] ∷ []) 3
+    ∷ row 0 [] 1 (stored-plain 17 (5 ∷ 5 ∷ []) 0 [] [] ∷ []) 3
+    -- two faults: policy 0 before a repeat after it, and a repeat before policy 0 after it
+    ∷ row 0 [] 1 (stored-plain 3 (5 ∷ 0 ∷ 5 ∷ []) 0 [] [] ∷ []) 4
+    ∷ row 0 [] 1 (stored-plain 3 (5 ∷ 5 ∷ 0 ∷ []) 0 [] [] ∷ []) 5
+    -- two faults: the policies before the pairs' count, 0 and repeated
+    ∷ row 0 [] 1 (stored-plain 1 (0 ∷ []) 17 sixteen sixteen ∷ []) 4
+    ∷ row 0 [] 1 (stored-plain 2 (5 ∷ 5 ∷ []) 17 sixteen sixteen ∷ []) 5
+    -- two faults: the policies before the pairs
+    ∷ row 0 [] 1 (stored-plain 2 (5 ∷ 5 ∷ []) 1 (0 ∷ []) (0 ∷ []) ∷ []) 5
+    -- two faults: the policy count before the pairs
+    ∷ row 0 [] 1 (stored-plain 17 sixteen 1 (0 ∷ []) (0 ∷ []) ∷ []) 3
+    -- two faults: the pairs' count before the pairs
+    ∷ row 0 [] 1 (stored-plain 0 [] 17 (0 ∷ []) (0 ∷ []) ∷ []) 3
+    -- two faults: certificate 1's pairs before certificate 2's count, and before its policies
+    ∷ row 0 [] 2 (stored-plain 0 [] 1 (5 ∷ []) (0 ∷ []) ∷ stored-plain 17 sixteen 0 [] [] ∷ []) 4
+    ∷ row 0 [] 2 (stored-plain 0 [] 1 (0 ∷ []) (5 ∷ []) ∷ stored-plain 2 (5 ∷ 5 ∷ []) 0 [] [] ∷ []) 4
+    -- two faults: certificate 1's policies before certificate 2's
+    ∷ row 0 [] 2 (stored-plain 2 (5 ∷ 5 ∷ []) 0 [] [] ∷ stored-plain 1 (0 ∷ []) 0 [] [] ∷ []) 5
+    ∷ []
+
+-- Every decoded path is refused as expected, or has no fault.
+pub known-faults : map (λ r. path-fault (r .path)) rows ≡ map (λ r. r .number) rows
+unfolding path-fault rows
+known-faults = refl

@@ -1,0 +1,131 @@
+-- The judge's whole answer on sheets and on decoded paths, with what the two lent tables then hold, by the graph and by the tree.
+-- For each one table, and one claim that covers every row, by computation. At entry the authority table is filled with 7 and the user table with 8.
+use Prim.Native.Nat.{ℕ}
+use mathlib.Core.Bool.{Bool, true, false}
+use mathlib.Core.List.{List, [], _∷_, map}
+use mathlib.Core.Path.{_≡_, refl}
+use lib.ListN.{replicate}
+use Rattle.rules.specs.declared.Certificate.{Certificate as StoredCertificate}
+use Rattle.rules.specs.declared.Path.{Path as StoredPath}
+use Rattle.rules.specs.declared.Answer.{Answer as StoredAnswer}
+use Rattle.rules.specs.Graph as Graph
+use Rattle.rules.specs.Tree as Tree
+use Rattle.rules.specs.Judge.{Outcome, outcome, sheet-judged, path-judged}
+use Rattle.rules.proofs.Notation.{filled, stored-plain, stored-path}
+
+-- what is handed over, the two tables at entry, and the outcome expected
+pub record Row (A : Type 0) : Type 0 where
+  pub input : A
+  pub authority : List ℕ
+  pub user : List ℕ
+  pub outcome : Outcome
+
+-- the lengths of the two tables; number, place, counts, and the tables at exit
+row : {A : Type 0} → A → ℕ → ℕ → ℕ → ℕ → List ℕ → List ℕ → List ℕ → Row A
+row x a u k i ns A′ U′ =
+    record { input = x; authority = replicate a 7; user = replicate u 8; outcome = record { number = k; place = i; counts = ns; authority = A′; user = U′ } }
+
+-- a refusal: place 0, the eleven counts 0, and both tables unchanged
+refusal : {A : Type 0} → A → ℕ → ℕ → ℕ → Row A
+unfolding row
+refusal x a u k = row x a u k 0 (replicate 11 0) (replicate a 7) (replicate u 8)
+
+-- a verdict: number and place, the counts in eleven places, and each set in its table, zero from its end to the table's
+verdict : {A : Type 0} → A → ℕ → ℕ → ℕ → ℕ → List ℕ → List ℕ → List ℕ → Row A
+unfolding row filled
+verdict x a u k i ns as′ us′ = row x a u k i (filled 11 0 ns) (filled a 0 as′) (filled u 0 us′)
+
+sheet-A : List ℕ
+sheet-A = 0x12 ∷ 0x01 ∷ 0x00 ∷ 0x01 ∷ 0x46 ∷ 0x00 ∷ 0x16 ∷ 0x00 ∷ 0x18 ∷ 0x00 ∷ 0x1F ∷ 0x10 ∷ 0x00 ∷ 0x58 ∷ 0x00 ∷ 0x68 ∷ 0x00 ∷ 0x58 ∷ 0x00 ∷ 0x70 ∷ 0x46 ∷ 0x00 ∷ 0x18 ∷ 0x00 ∷ 0x1A ∷ 0x00 ∷ 0x20 ∷ 0x00 ∷ []
+
+sheet-D : List ℕ
+sheet-D = 0x11 ∷ 0x41 ∷ 0x00 ∷ 0x01 ∷ 0x00 ∷ []
+
+sheet-E : List ℕ
+sheet-E = 0x11 ∷ 0x02 ∷ 0x00 ∷ 0x1E ∷ 0x00 ∷ 0x1F ∷ 0x42 ∷ 0x00 ∷ 0x02 ∷ 0x00 ∷ []
+
+sheet-H : List ℕ
+sheet-H = 0x12 ∷ 0x41 ∷ 0x00 ∷ 0x33 ∷ 0x42 ∷ 0x00 ∷ 0x03 ∷ 0x08 ∷ 0x01 ∷ 0x90 ∷ 0x01 ∷ 0x98 ∷ 0x42 ∷ 0x00 ∷ 0x66 ∷ 0x00 ∷ []
+
+sheet-K : List ℕ
+sheet-K = 0x11 ∷ 0x01 ∷ 0x00 ∷ 0x01 ∷ 0x42 ∷ 0x00 ∷ 0x8D ∷ 0x08 ∷ 0x00 ∷ 0x08 ∷ 0x02 ∷ 0x38 ∷ []
+
+unfoldable pub sheet-rows : List (Row (List ℕ))
+unfolding verdict refusal row sheet-A sheet-D sheet-E sheet-H sheet-K
+sheet-rows =
+    -- 0 with tables of 304 places: the counts, and each set first and then zeros
+    verdict sheet-A 304 304 0 0 (1 ∷ 2 ∷ 2 ∷ []) (11 ∷ 12 ∷ []) (11 ∷ 12 ∷ [])
+    -- 0 with longer tables, each zeroed to its own end
+    ∷ verdict sheet-E 305 307 0 0 (1 ∷ 1 ∷ []) (1 ∷ []) (30 ∷ 31 ∷ [])
+    -- 10: the counts and the authority set stand, the user table is all zero
+    ∷ verdict sheet-H 306 305 10 2 (1 ∷ 1 ∷ 1 ∷ []) (50 ∷ []) []
+    -- 8: both tables and the counts are all zero
+    ∷ verdict sheet-D 304 305 8 1 [] [] []
+    -- 9: both tables and the counts are all zero
+    ∷ verdict sheet-K 305 304 9 1 [] [] []
+    -- a refusal leaves both tables: empty input
+    ∷ refusal [] 304 305 1
+    -- a refusal leaves both tables: edition 2
+    ∷ refusal (0x21 ∷ []) 305 304 2
+    -- a refusal leaves both tables: a fill bit
+    ∷ refusal (0x11 ∷ 0x02 ∷ 0x00 ∷ 0x1E ∷ 0x00 ∷ 0x1F ∷ 0x42 ∷ 0x00 ∷ 0x02 ∷ 0x01 ∷ []) 304 304 6
+    -- 7: an authority table of 303 places
+    ∷ refusal sheet-E 303 304 7
+    -- 7: a user table of 303 places
+    ∷ refusal sheet-E 304 303 7
+    -- 7: both
+    ∷ refusal sheet-E 303 303 7
+    -- 7: no places at all
+    ∷ refusal sheet-E 0 304 7
+    -- 7 before the sheet's own refusals: empty input, and edition 2
+    ∷ refusal [] 303 304 7
+    ∷ refusal (0x21 ∷ []) 304 303 7
+    -- 7 before a verdict that fails
+    ∷ refusal sheet-D 304 303 7
+    ∷ []
+
+pub record Said : Type 0 where
+  pub graph : Outcome
+  pub tree : Outcome
+
+-- Every sheet gets the outcome expected, by the graph and by the tree.
+pub known-sheet-judgings : map (λ r. record { graph = sheet-judged Graph.judged (r .input) (r .authority) (r .user); tree = sheet-judged Tree.judged (r .input) (r .authority) (r .user) }) sheet-rows ≡ map {B = Said} (λ r. record { graph = r .outcome; tree = r .outcome }) sheet-rows
+unfolding sheet-judged Graph.judged Tree.judged sheet-rows
+known-sheet-judgings = refl
+
+-- a decoded path with the explicit policy flag, a count and the user policies, a count and the certificates
+decoded : Bool → ℕ → List ℕ → ℕ → List StoredCertificate → StoredPath
+unfolding stored-path
+decoded ep uc us n cs = stored-path false ep false uc us n cs
+
+unfoldable pub path-rows : List (Row StoredPath)
+unfolding verdict refusal row decoded stored-path stored-plain
+path-rows =
+    -- 0: the counts, and each set first and then zeros
+    verdict (decoded false 1 (1 ∷ []) 2 (stored-plain 3 (11 ∷ 12 ∷ 15 ∷ []) 2 (11 ∷ 11 ∷ []) (13 ∷ 14 ∷ []) ∷ stored-plain 3 (12 ∷ 13 ∷ 16 ∷ []) 0 [] [] ∷ [])) 304 306 0 0 (1 ∷ 2 ∷ 2 ∷ []) (11 ∷ 12 ∷ []) (11 ∷ 12 ∷ [])
+    -- 10
+    ∷ verdict (decoded true 1 (51 ∷ []) 2 (stored-plain 1 (1 ∷ []) 1 (50 ∷ []) (51 ∷ []) ∷ stored-plain 1 (51 ∷ []) 0 [] [] ∷ [])) 306 305 10 2 (1 ∷ 1 ∷ 1 ∷ []) (50 ∷ []) []
+    -- 8 and 9: both tables and the counts are all zero
+    ∷ verdict (decoded true 0 [] 1 (stored-plain 0 [] 0 [] [] ∷ [])) 304 305 8 1 [] [] []
+    ∷ verdict (decoded false 0 [] 1 (stored-plain 1 (70 ∷ []) 1 (1 ∷ []) (71 ∷ []) ∷ [])) 305 304 9 1 [] [] []
+    -- the refusals 3, 4 and 5 leave both tables
+    ∷ refusal (decoded false 0 [] 0 []) 304 305 3
+    ∷ refusal (decoded false 1 (0 ∷ []) 1 (stored-plain 0 [] 0 [] [] ∷ [])) 304 305 4
+    ∷ refusal (decoded true 0 [] 1 (stored-plain 2 (5 ∷ 5 ∷ []) 0 [] [] ∷ [])) 304 305 5
+    -- 7: a table of 303 places
+    ∷ refusal (decoded false 1 (1 ∷ []) 2 (stored-plain 3 (11 ∷ 12 ∷ 15 ∷ []) 2 (11 ∷ 11 ∷ []) (13 ∷ 14 ∷ []) ∷ stored-plain 3 (12 ∷ 13 ∷ 16 ∷ []) 0 [] [] ∷ [])) 303 304 7
+    ∷ refusal (decoded false 1 (1 ∷ []) 2 (stored-plain 3 (11 ∷ 12 ∷ 15 ∷ []) 2 (11 ∷ 11 ∷ []) (13 ∷ 14 ∷ []) ∷ stored-plain 3 (12 ∷ 13 ∷ 16 ∷ []) 0 [] [] ∷ [])) 304 303 7
+    -- 7 before the path's own refusals
+    ∷ refusal (decoded false 0 [] 0 []) 303 304 7
+    ∷ refusal (decoded true 0 [] 1 (stored-plain 2 (5 ∷ 5 ∷ []) 0 [] [] ∷ [])) 304 303 7
+    ∷ []
+
+-- Every decoded path gets the outcome expected, by the graph and by the tree.
+pub known-path-judgings : map (λ r. record { graph = path-judged Graph.judged (r .input) (r .authority) (r .user); tree = path-judged Tree.judged (r .input) (r .authority) (r .user) }) path-rows ≡ map {B = Said} (λ r. record { graph = r .outcome; tree = r .outcome }) path-rows
+unfolding path-judged Graph.judged Tree.judged path-rows
+known-path-judgings = refl
+
+-- The code's answer and the tables at exit are taken as they are.
+pub known-outcome : outcome (record { number = 10; place = 2; counts = 1 ∷ 3 ∷ [] }) (7 ∷ []) (8 ∷ []) ≡ record { number = 10; place = 2; counts = 1 ∷ 3 ∷ []; authority = 7 ∷ []; user = 8 ∷ [] }
+unfolding outcome
+known-outcome = refl

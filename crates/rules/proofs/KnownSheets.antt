@@ -1,0 +1,170 @@
+-- Sheets with known readings: bytes, and the path and the bit position after it, or the refusal's number. Where a path is read, writing it gives the bytes again.
+-- One table, and one claim that covers every row, by computation.
+use Prim.Native.Nat.{ℕ}
+use mathlib.Core.Bool.{true, false}
+use mathlib.Core.List.{List, [], _∷_, map}
+use mathlib.Core.Path.{_≡_, refl}
+use Rattle.rules.specs.declared.Skip.the-variants.{Absent, Certificates}
+use Rattle.rules.specs.Paths.{Path}
+use Rattle.rules.specs.Sheet.{Read, refused, read, read-sheet, sheet-of}
+use Rattle.rules.proofs.Notation.{_to_, certificate, plain, path, case-E}
+
+pub record Row : Type 0 where
+  pub bytes : List ℕ
+  pub reading : Read Path
+
+row : List ℕ → Read Path → Row
+row s r = record { bytes = s; reading = r }
+
+unfoldable pub rows : List Row
+unfolding row path plain certificate _to_ case-E
+rows =
+    -- case E's sheet
+    row (0x11 ∷ 0x02 ∷ 0x00 ∷ 0x1E ∷ 0x00 ∷ 0x1F ∷ 0x42 ∷ 0x00 ∷ 0x02 ∷ 0x00 ∷ []) (read case-E 75)
+    -- the mapping inhibit flag
+    ∷ row (0x11 ∷ 0x80 ∷ 0x00 ∷ []) (read (path true false false [] (plain [] [] ∷ [])) 22)
+    -- the explicit policy flag
+    ∷ row (0x11 ∷ 0x40 ∷ 0x00 ∷ []) (read (path false true false [] (plain [] [] ∷ [])) 22)
+    -- the anyPolicy inhibit flag
+    ∷ row (0x11 ∷ 0x20 ∷ 0x00 ∷ []) (read (path false false true [] (plain [] [] ∷ [])) 22)
+    -- each field of a certificate, each with another value
+    ∷ row (0x14 ∷ 0x02 ∷ 0x80 ∷ 0x01 ∷ 0x00 ∷ 0x01 ∷ 0xC4 ∷ 0x24 ∷ 0x68 ∷ 0x00 ∷ 0x05 ∷ 0x10 ∷ 0x00 ∷ 0x18 ∷ 0x00 ∷ 0x20 ∷ 0x00 ∷ 0x2F ∷ 0xFF ∷ 0xFB ∷ 0x4A ∷ 0x10 ∷ 0x07 ∷ 0xFD ∷ 0x08 ∷ 0x00 ∷ 0x0A ∷ 0x03 ∷ 0x02 ∷ 0x81 ∷ 0x90 ∷ 0x80 ∷ 0x00 ∷ 0x80 ∷ 0x00 ∷ 0x80 ∷ []) (read (path false false false (32769 ∷ 1 ∷ []) (certificate true (4660 ∷ 2 ∷ []) (3 to 4 ∷ 5 to 65535 ∷ []) Absent (Certificates 165) Absent ∷ certificate false [] [] (Certificates 0) Absent (Certificates 255) ∷ certificate false (1 ∷ []) [] (Certificates 1) (Certificates 2) (Certificates 3) ∷ plain [] (1 to 1 ∷ []) ∷ [])) 284)
+    -- what may repeat: user policies, pairs, and policies of two certificates
+    ∷ row (0x12 ∷ 0x02 ∷ 0x00 ∷ 0x09 ∷ 0x00 ∷ 0x09 ∷ 0x42 ∷ 0x00 ∷ 0x0B ∷ 0x10 ∷ 0x00 ∷ 0x28 ∷ 0x00 ∷ 0x28 ∷ 0x00 ∷ 0x28 ∷ 0x00 ∷ 0x28 ∷ 0x42 ∷ 0x00 ∷ 0x0A ∷ 0x00 ∷ []) (read (path false false false (9 ∷ 9 ∷ []) (plain (5 ∷ []) (5 to 5 ∷ 5 to 5 ∷ []) ∷ plain (5 ∷ []) [] ∷ [])) 171)
+    -- no fill bit: the last field ends with its byte
+    ∷ row (0x14 ∷ 0x00 ∷ 0x00 ∷ 0x00 ∷ 0x00 ∷ []) (read (path false false false [] (plain [] [] ∷ plain [] [] ∷ plain [] [] ∷ plain [] [] ∷ [])) 40)
+    -- seven fill bits
+    ∷ row (0x12 ∷ 0x00 ∷ 0x01 ∷ 0x08 ∷ 0x00 ∷ 0x28 ∷ 0x00 ∷ []) (read (path false false false [] (plain [] [] ∷ plain (5 ∷ []) [] ∷ [])) 49)
+    -- ten certificates
+    ∷ row (0x1A ∷ 0x00 ∷ 0x00 ∷ 0x00 ∷ 0x00 ∷ 0x00 ∷ 0x00 ∷ 0x00 ∷ 0x00 ∷ 0x00 ∷ []) (read (path false false false [] (plain [] [] ∷ plain [] [] ∷ plain [] [] ∷ plain [] [] ∷ plain [] [] ∷ plain [] [] ∷ plain [] [] ∷ plain [] [] ∷ plain [] [] ∷ plain [] [] ∷ [])) 76)
+    -- sixteen user policies
+    ∷ row (0x11 ∷ 0x10 ∷ 0x00 ∷ 0x02 ∷ 0x00 ∷ 0x03 ∷ 0x00 ∷ 0x04 ∷ 0x00 ∷ 0x05 ∷ 0x00 ∷ 0x06 ∷ 0x00 ∷ 0x07 ∷ 0x00 ∷ 0x08 ∷ 0x00 ∷ 0x09 ∷ 0x00 ∷ 0x0A ∷ 0x00 ∷ 0x0B ∷ 0x00 ∷ 0x0C ∷ 0x00 ∷ 0x0D ∷ 0x00 ∷ 0x0E ∷ 0x00 ∷ 0x0F ∷ 0x00 ∷ 0x10 ∷ 0x00 ∷ 0x11 ∷ 0x00 ∷ []) (read (path false false false (2 ∷ 3 ∷ 4 ∷ 5 ∷ 6 ∷ 7 ∷ 8 ∷ 9 ∷ 10 ∷ 11 ∷ 12 ∷ 13 ∷ 14 ∷ 15 ∷ 16 ∷ 17 ∷ []) (plain [] [] ∷ [])) 278)
+    -- sixteen policies
+    ∷ row (0x11 ∷ 0x00 ∷ 0x60 ∷ 0x00 ∷ 0x04 ∷ 0x00 ∷ 0x06 ∷ 0x00 ∷ 0x08 ∷ 0x00 ∷ 0x0A ∷ 0x00 ∷ 0x0C ∷ 0x00 ∷ 0x0E ∷ 0x00 ∷ 0x10 ∷ 0x00 ∷ 0x12 ∷ 0x00 ∷ 0x14 ∷ 0x00 ∷ 0x16 ∷ 0x00 ∷ 0x18 ∷ 0x00 ∷ 0x1A ∷ 0x00 ∷ 0x1C ∷ 0x00 ∷ 0x1E ∷ 0x00 ∷ 0x20 ∷ 0x00 ∷ 0x22 ∷ 0x00 ∷ []) (read (path false false false [] (plain (2 ∷ 3 ∷ 4 ∷ 5 ∷ 6 ∷ 7 ∷ 8 ∷ 9 ∷ 10 ∷ 11 ∷ 12 ∷ 13 ∷ 14 ∷ 15 ∷ 16 ∷ 17 ∷ []) [] ∷ [])) 283)
+    -- sixteen pairs
+    ∷ row (0x11 ∷ 0x00 ∷ 0x30 ∷ 0x00 ∷ 0x02 ∷ 0x00 ∷ 0x03 ∷ 0x00 ∷ 0x03 ∷ 0x00 ∷ 0x04 ∷ 0x00 ∷ 0x04 ∷ 0x00 ∷ 0x05 ∷ 0x00 ∷ 0x05 ∷ 0x00 ∷ 0x06 ∷ 0x00 ∷ 0x06 ∷ 0x00 ∷ 0x07 ∷ 0x00 ∷ 0x07 ∷ 0x00 ∷ 0x08 ∷ 0x00 ∷ 0x08 ∷ 0x00 ∷ 0x09 ∷ 0x00 ∷ 0x09 ∷ 0x00 ∷ 0x0A ∷ 0x00 ∷ 0x0A ∷ 0x00 ∷ 0x0B ∷ 0x00 ∷ 0x0B ∷ 0x00 ∷ 0x0C ∷ 0x00 ∷ 0x0C ∷ 0x00 ∷ 0x0D ∷ 0x00 ∷ 0x0D ∷ 0x00 ∷ 0x0E ∷ 0x00 ∷ 0x0E ∷ 0x00 ∷ 0x0F ∷ 0x00 ∷ 0x0F ∷ 0x00 ∷ 0x10 ∷ 0x00 ∷ 0x10 ∷ 0x00 ∷ 0x11 ∷ 0x00 ∷ 0x11 ∷ 0x00 ∷ 0x12 ∷ 0x00 ∷ []) (read (path false false false [] (plain [] (2 to 3 ∷ 3 to 4 ∷ 4 to 5 ∷ 5 to 6 ∷ 6 to 7 ∷ 7 to 8 ∷ 8 to 9 ∷ 9 to 10 ∷ 10 to 11 ∷ 11 to 12 ∷ 12 to 13 ∷ 13 to 14 ∷ 14 to 15 ∷ 15 to 16 ∷ 16 to 17 ∷ 17 to 18 ∷ []) ∷ [])) 539)
+    -- ends: empty input
+    ∷ row [] (refused 1)
+    -- ends: case E cut to 1 bytes
+    ∷ row (0x11 ∷ []) (refused 1)
+    -- ends: case E cut to 2 bytes
+    ∷ row (0x11 ∷ 0x02 ∷ []) (refused 1)
+    -- ends: case E cut to 3 bytes
+    ∷ row (0x11 ∷ 0x02 ∷ 0x00 ∷ []) (refused 1)
+    -- ends: case E cut to 4 bytes
+    ∷ row (0x11 ∷ 0x02 ∷ 0x00 ∷ 0x1E ∷ []) (refused 1)
+    -- ends: case E cut to 5 bytes
+    ∷ row (0x11 ∷ 0x02 ∷ 0x00 ∷ 0x1E ∷ 0x00 ∷ []) (refused 1)
+    -- ends: case E cut to 6 bytes
+    ∷ row (0x11 ∷ 0x02 ∷ 0x00 ∷ 0x1E ∷ 0x00 ∷ 0x1F ∷ []) (refused 1)
+    -- ends: case E cut to 7 bytes
+    ∷ row (0x11 ∷ 0x02 ∷ 0x00 ∷ 0x1E ∷ 0x00 ∷ 0x1F ∷ 0x42 ∷ []) (refused 1)
+    -- ends: case E cut to 8 bytes
+    ∷ row (0x11 ∷ 0x02 ∷ 0x00 ∷ 0x1E ∷ 0x00 ∷ 0x1F ∷ 0x42 ∷ 0x00 ∷ []) (refused 1)
+    -- ends: case E cut to 9 bytes
+    ∷ row (0x11 ∷ 0x02 ∷ 0x00 ∷ 0x1E ∷ 0x00 ∷ 0x1F ∷ 0x42 ∷ 0x00 ∷ 0x02 ∷ []) (refused 1)
+    -- ends: inside a skip value
+    ∷ row (0x11 ∷ 0x00 ∷ 0x10 ∷ []) (refused 1)
+    -- ends: inside an issuer, before its own fault
+    ∷ row (0x11 ∷ 0x00 ∷ 0x21 ∷ 0x00 ∷ []) (refused 1)
+    -- ends: before a subject
+    ∷ row (0x11 ∷ 0x00 ∷ 0x21 ∷ 0x00 ∷ 0x05 ∷ []) (refused 1)
+    -- ends: inside a subject, before its own fault
+    ∷ row (0x11 ∷ 0x00 ∷ 0x21 ∷ 0x00 ∷ 0x05 ∷ 0x00 ∷ []) (refused 1)
+    -- ends: inside a user policy, before its own fault
+    ∷ row (0x11 ∷ 0x01 ∷ 0x00 ∷ []) (refused 1)
+    -- ends: before a count, before its own fault
+    ∷ row (0x12 ∷ 0x00 ∷ 0x01 ∷ []) (refused 1)
+    -- ends: inside a policy, before its own fault
+    ∷ row (0x11 ∷ 0x00 ∷ 0x44 ∷ 0x0A ∷ 0x00 ∷ 0x0A ∷ []) (refused 1)
+    -- edition 2
+    ∷ row (0x21 ∷ []) (refused 2)
+    -- edition 0
+    ∷ row (0x01 ∷ []) (refused 2)
+    -- edition 3
+    ∷ row (0x31 ∷ []) (refused 2)
+    -- edition 9: the field has four bits
+    ∷ row (0x91 ∷ []) (refused 2)
+    -- edition before n
+    ∷ row (0x20 ∷ []) (refused 2)
+    -- n is 0
+    ∷ row (0x10 ∷ []) (refused 3)
+    -- n is 11
+    ∷ row (0x1B ∷ []) (refused 3)
+    -- n is 15
+    ∷ row (0x1F ∷ []) (refused 3)
+    -- user count 17
+    ∷ row (0x11 ∷ 0x11 ∷ []) (refused 3)
+    -- user count 31
+    ∷ row (0x11 ∷ 0x1F ∷ []) (refused 3)
+    -- user count 16 is none: the sheet ends
+    ∷ row (0x11 ∷ 0x10 ∷ []) (refused 1)
+    -- policies present, count 0
+    ∷ row (0x11 ∷ 0x00 ∷ 0x40 ∷ []) (refused 3)
+    -- policies present, count 17
+    ∷ row (0x11 ∷ 0x00 ∷ 0x62 ∷ []) (refused 3)
+    -- policies present, count 31
+    ∷ row (0x11 ∷ 0x00 ∷ 0x7E ∷ []) (refused 3)
+    -- mappings present, count 0
+    ∷ row (0x11 ∷ 0x00 ∷ 0x20 ∷ []) (refused 3)
+    -- mappings present, count 17
+    ∷ row (0x11 ∷ 0x00 ∷ 0x31 ∷ []) (refused 3)
+    -- mappings present, count 31
+    ∷ row (0x11 ∷ 0x00 ∷ 0x3F ∷ []) (refused 3)
+    -- user policy 0, the first
+    ∷ row (0x11 ∷ 0x01 ∷ 0x00 ∷ 0x00 ∷ []) (refused 4)
+    -- user policy 0, the second
+    ∷ row (0x11 ∷ 0x02 ∷ 0x00 ∷ 0x09 ∷ 0x00 ∷ 0x00 ∷ []) (refused 4)
+    -- policy 0, the second
+    ∷ row (0x11 ∷ 0x00 ∷ 0x44 ∷ 0x00 ∷ 0x0A ∷ 0x00 ∷ 0x00 ∷ 0x00 ∷ []) (refused 4)
+    -- issuer 0, though the sheet ends before its subject
+    ∷ row (0x11 ∷ 0x00 ∷ 0x21 ∷ 0x00 ∷ 0x00 ∷ []) (refused 4)
+    -- subject 0
+    ∷ row (0x11 ∷ 0x00 ∷ 0x21 ∷ 0x00 ∷ 0x05 ∷ 0x00 ∷ 0x00 ∷ []) (refused 4)
+    -- issuer 0, the second
+    ∷ row (0x11 ∷ 0x00 ∷ 0x22 ∷ 0x00 ∷ 0x05 ∷ 0x00 ∷ 0x06 ∷ 0x00 ∷ 0x00 ∷ 0x00 ∷ 0x07 ∷ 0x00 ∷ []) (refused 4)
+    -- subject 0, the second
+    ∷ row (0x11 ∷ 0x00 ∷ 0x22 ∷ 0x00 ∷ 0x05 ∷ 0x00 ∷ 0x06 ∷ 0x00 ∷ 0x07 ∷ 0x00 ∷ 0x00 ∷ 0x00 ∷ []) (refused 4)
+    -- policy 0 before the repeat after it
+    ∷ row (0x11 ∷ 0x00 ∷ 0x46 ∷ 0x00 ∷ 0x0A ∷ 0x00 ∷ 0x00 ∷ 0x00 ∷ 0x0A ∷ 0x00 ∷ []) (refused 4)
+    -- the repeat before policy 0 after it
+    ∷ row (0x11 ∷ 0x00 ∷ 0x46 ∷ 0x00 ∷ 0x0A ∷ 0x00 ∷ 0x0A ∷ 0x00 ∷ 0x00 ∷ 0x00 ∷ []) (refused 5)
+    -- a policy repeated, not next to itself
+    ∷ row (0x11 ∷ 0x00 ∷ 0x46 ∷ 0x00 ∷ 0x0A ∷ 0x00 ∷ 0x0C ∷ 0x00 ∷ 0x0A ∷ 0x00 ∷ []) (refused 5)
+    -- anyPolicy repeated
+    ∷ row (0x11 ∷ 0x00 ∷ 0x44 ∷ 0x00 ∷ 0x02 ∷ 0x00 ∷ 0x02 ∷ 0x00 ∷ []) (refused 5)
+    -- a policy repeated in certificate 2
+    ∷ row (0x12 ∷ 0x00 ∷ 0x42 ∷ 0x00 ∷ 0x0A ∷ 0x08 ∷ 0x80 ∷ 0x01 ∷ 0x80 ∷ 0x01 ∷ 0x80 ∷ []) (refused 5)
+    -- a policy repeated, before the count of the pairs
+    ∷ row (0x11 ∷ 0x00 ∷ 0x44 ∷ 0x00 ∷ 0x0A ∷ 0x00 ∷ 0x0B ∷ 0x88 ∷ []) (refused 5)
+    -- pairs of certificate 1 before the count of certificate 2
+    ∷ row (0x12 ∷ 0x00 ∷ 0x21 ∷ 0x00 ∷ 0x05 ∷ 0x00 ∷ 0x00 ∷ 0x0C ∷ 0x40 ∷ []) (refused 4)
+    -- a fill bit is set, the last
+    ∷ row (0x11 ∷ 0x02 ∷ 0x00 ∷ 0x1E ∷ 0x00 ∷ 0x1F ∷ 0x42 ∷ 0x00 ∷ 0x02 ∷ 0x01 ∷ []) (refused 6)
+    -- a fill bit is set, the first
+    ∷ row (0x11 ∷ 0x02 ∷ 0x00 ∷ 0x1E ∷ 0x00 ∷ 0x1F ∷ 0x42 ∷ 0x00 ∷ 0x02 ∷ 0x10 ∷ []) (refused 6)
+    -- a byte follows
+    ∷ row (0x11 ∷ 0x02 ∷ 0x00 ∷ 0x1E ∷ 0x00 ∷ 0x1F ∷ 0x42 ∷ 0x00 ∷ 0x02 ∷ 0x00 ∷ 0x00 ∷ []) (refused 6)
+    -- a byte follows where there is no fill bit
+    ∷ row (0x14 ∷ 0x00 ∷ 0x00 ∷ 0x00 ∷ 0x00 ∷ 0x00 ∷ []) (refused 6)
+    -- fill after all else: a user policy 0, and bytes that follow
+    ∷ row (0x11 ∷ 0x01 ∷ 0x00 ∷ 0x00 ∷ 0x00 ∷ 0x00 ∷ 0x00 ∷ 0x00 ∷ 0x01 ∷ []) (refused 4)
+    ∷ []
+
+-- what reading gives, and the bytes that writing what is expected gives: of a refused sheet its own
+pub record Said : Type 0 where
+  pub reading : Read Path
+  pub bytes : List ℕ
+
+unfoldable pub written-again : Row → List ℕ
+unfolding sheet-of
+written-again r = go (r .reading)
+  where
+    go : Read Path → List ℕ
+    go (refused k) = r .bytes
+    go (read p at) = sheet-of p
+
+-- Every known sheet is read as expected, and written again.
+pub known-sheets : map (λ r. record { reading = read-sheet (r .bytes); bytes = written-again r }) rows ≡ map {B = Said} (λ r. record { reading = r .reading; bytes = r .bytes }) rows
+unfolding read-sheet written-again rows
+known-sheets = refl

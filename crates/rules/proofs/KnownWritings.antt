@@ -1,0 +1,68 @@
+-- What the writer answers and what its lent buffer then holds: one table, and one claim that covers every row, by computation.
+use Prim.Native.Nat.{ℕ}
+use mathlib.Core.Bool.{false}
+use mathlib.Core.List.{List, [], _∷_, _++_, map}
+use mathlib.Core.Path.{_≡_, refl}
+use lib.ListN.{replicate}
+use Rattle.rules.specs.declared.Path.{Path as StoredPath}
+use Rattle.rules.specs.declared.Writing.{Writing as StoredWriting}
+use Rattle.rules.specs.Sheet.{Written, written, as-written}
+use Rattle.rules.proofs.Notation.{stored-plain, stored-path}
+
+pub record Row : Type 0 where
+  pub path : StoredPath
+  pub buffer : List ℕ
+  pub written : Written
+
+-- a path and the buffer at entry; the number, the length and the buffer at exit
+row : StoredPath → List ℕ → ℕ → ℕ → List ℕ → Row
+row p B k n B′ = record { path = p; buffer = B; written = record { number = k; length = n; buffer = B′ } }
+
+-- a buffer of m bytes with an old value
+old : ℕ → List ℕ
+old m = replicate m 170
+
+-- the path of case E, with its user count and its number of certificates
+case-E-with : ℕ → ℕ → StoredPath
+unfolding stored-path stored-plain
+case-E-with uc n = stored-path false false false uc (30 ∷ 31 ∷ []) n (stored-plain 1 (1 ∷ []) 0 [] [] ∷ [])
+
+-- a path of one certificate with two policies
+listing : ℕ → ℕ → StoredPath
+unfolding stored-path stored-plain
+listing p q = stored-path false false false 0 [] 1 (stored-plain 2 (p ∷ q ∷ []) 0 [] [] ∷ [])
+
+case-E-sheet : List ℕ
+case-E-sheet = 0x11 ∷ 0x02 ∷ 0x00 ∷ 0x1E ∷ 0x00 ∷ 0x1F ∷ 0x42 ∷ 0x00 ∷ 0x02 ∷ 0x00 ∷ []
+
+unfoldable pub rows : List Row
+unfolding row old case-E-with listing case-E-sheet
+rows =
+    -- a buffer of 1,043 bytes: 7, length 0, the buffer unchanged
+    row (case-E-with 2 1) (old 1043) 7 0 (old 1043)
+    -- an empty buffer
+    ∷ row (case-E-with 2 1) [] 7 0 []
+    -- 7 before the path's own refusals
+    ∷ row (case-E-with 2 0) (old 1043) 7 0 (old 1043)
+    ∷ row (listing 5 5) (old 1043) 7 0 (old 1043)
+    -- a buffer of 1,044 bytes: 0, the sheet first, and every later byte unchanged
+    ∷ row (case-E-with 2 1) (old 1044) 0 10 (case-E-sheet ++ old 1034)
+    -- a longer buffer
+    ∷ row (case-E-with 2 1) (old 1046) 0 10 (case-E-sheet ++ old 1036)
+    -- the refusals 3, 4 and 5: length 0, the buffer unchanged
+    ∷ row (case-E-with 17 1) (old 1044) 3 0 (old 1044)
+    ∷ row (listing 5 0) (old 1044) 4 0 (old 1044)
+    ∷ row (listing 5 5) (old 1044) 5 0 (old 1044)
+    -- two faults: the user policies before the policies
+    ∷ row (stored-path false false false 1 (0 ∷ []) 1 (stored-plain 2 (5 ∷ 5 ∷ []) 0 [] [] ∷ [])) (old 1044) 4 0 (old 1044)
+    ∷ []
+
+-- Every path is written, or refused, as expected.
+pub known-writings : map (λ r. written (r .path) (r .buffer)) rows ≡ map (λ r. r .written) rows
+unfolding written rows
+known-writings = refl
+
+-- The writer's answer and the buffer are taken as they are.
+pub known-answer : as-written (record { number = 4; length = 9 }) (7 ∷ 8 ∷ []) ≡ record { number = 4; length = 9; buffer = 7 ∷ 8 ∷ [] }
+unfolding as-written
+known-answer = refl

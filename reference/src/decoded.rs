@@ -1,0 +1,162 @@
+//! Decoded paths as records of numbers, for the proved program `path_check`,
+//! and the line that it is expected to write for each.
+
+use crate::answer::{judge_path, Answer, DEPTHS, PLACES};
+use crate::path::{Certificate, Path, MAX_CERTIFICATES, MAX_LIST};
+use crate::sheet::{self, LONGEST};
+
+/// The places of a table and the bytes of a buffer, of which the first are
+/// lent, and their old values.
+pub const TABLE_PLACES: usize = PLACES + 8;
+pub const BUFFER_BYTES: usize = LONGEST + 8;
+const OLD_PLACE: u16 = 43_690;
+const OLD_BYTE: u8 = 170;
+
+/// The lengths of the tables and the buffer that are lent, at most their
+/// places.
+#[derive(Clone, Copy, Debug)]
+pub struct Lengths {
+    pub authority: usize,
+    pub user: usize,
+    pub buffer: usize,
+}
+
+/// Tables and a buffer that suffice, and no more.
+pub const ENOUGH: Lengths = Lengths { authority: PLACES, user: PLACES, buffer: LONGEST };
+
+/// A list's count, and its places: the policies, then what `unused` draws.
+fn put_list(numbers: &mut Vec<u16>, list: &[u16], unused: &mut impl FnMut() -> u16) {
+    let places = (0..MAX_LIST).map(|place| list.get(place).copied().unwrap_or_else(&mut *unused));
+    numbers.extend(places);
+}
+
+/// 0 for absent, else one more than the value.
+fn skip(value: Option<u8>) -> u16 {
+    value.map_or(0, |value| u16::from(value) + 1)
+}
+
+/// The numbers of one place of a certificate.
+fn put_certificate(
+    numbers: &mut Vec<u16>,
+    certificate: &Certificate,
+    unused: &mut impl FnMut() -> u16,
+) {
+    let issuers: Vec<u16> = certificate.mappings.iter().map(|pair| pair.0).collect();
+    let subjects: Vec<u16> = certificate.mappings.iter().map(|pair| pair.1).collect();
+    numbers.push(u16::from(certificate.self_issued));
+    numbers.push(certificate.policies.len() as u16);
+    put_list(numbers, &certificate.policies, unused);
+    numbers.push(certificate.mappings.len() as u16);
+    put_list(numbers, &issuers, unused);
+    put_list(numbers, &subjects, unused);
+    numbers.push(skip(certificate.require_explicit_policy));
+    numbers.push(skip(certificate.inhibit_policy_mapping));
+    numbers.push(skip(certificate.inhibit_any_policy));
+}
+
+/// A record. A list longer than its places shows by its count alone, and every
+/// unused place holds what `unused` draws, faults among them.
+pub fn record(path: &Path, lengths: Lengths, unused: &mut impl FnMut() -> u16) -> Vec<u8> {
+    let mut numbers: Vec<u16> =
+        [lengths.authority, lengths.user, lengths.buffer].map(|length| length as u16).to_vec();
+    numbers.push(u16::from(path.mapping_inhibit));
+    numbers.push(u16::from(path.explicit_policy));
+    numbers.push(u16::from(path.any_policy_inhibit));
+    numbers.push(path.user.len() as u16);
+    put_list(&mut numbers, &path.user, unused);
+    numbers.push(path.certificates.len() as u16);
+    for place in 0..MAX_CERTIFICATES {
+        match path.certificates.get(place) {
+            Some(certificate) => put_certificate(&mut numbers, certificate, unused),
+            None => {
+                let policies = vec![unused(); usize::from(unused() % 40)];
+                let mappings = vec![(unused(), unused()); usize::from(unused() % 40)];
+                let other = Certificate { policies, mappings, ..Certificate::default() };
+                put_certificate(&mut numbers, &other, unused);
+            }
+        }
+    }
+    numbers.iter().flat_map(|number| number.to_be_bytes()).collect()
+}
+
+/// A digest of a table or buffer: another value at another place gives another
+/// digest, but by chance.
+fn digest<T: Copy + Into<u64>>(places: &[T]) -> u64 {
+    places.iter().fold(0, |digest, &value| (digest * 31 + value.into() + 1) % 65_521)
+}
+
+/// The line expected for a record: what the judge and the writer answer, and
+/// what they leave in the tables and in the buffer.
+pub fn line(path: &Path, lengths: Lengths) -> String {
+    let (mut authority, mut user) = ([OLD_PLACE; TABLE_PLACES], [OLD_PLACE; TABLE_PLACES]);
+    let mut buffer = [OLD_BYTE; BUFFER_BYTES];
+    let (a, u, b) = (lengths.authority, lengths.user, lengths.buffer);
+    let Answer { number, place, counts, .. } =
+        judge_path(path, &mut authority[..a], &mut user[..u]);
+    let (written, length) = sheet::write_into(path, &mut buffer[..b]);
+    let counts: [String; DEPTHS] = counts.map(|count| count.to_string());
+    format!(
+        "judge {number} {place} {} {} {} write {written} {length} {}\n",
+        counts.join(" "),
+        digest(&authority),
+        digest(&user),
+        digest(&buffer)
+    )
+}
+
+/// A fault of a decoded path; those of a certificate name its place.
+#[derive(Clone, Copy, Debug, PartialEq, Eq)]
+pub enum Fault {
+    NoCertificate,
+    ElevenCertificates,
+    SeventeenUsers,
+    UserZero,
+    SeventeenPolicies(usize),
+    PolicyZero(usize),
+    PolicyRepeats(usize),
+    SeventeenPairs(usize),
+    IssuerZero(usize),
+    SubjectZero(usize),
+}
+
+/// Every fault of a path of two certificates.
+pub fn faults() -> Vec<Fault> {
+    use Fault::*;
+    let mut faults = vec![NoCertificate, ElevenCertificates, SeventeenUsers, UserZero];
+    for place in 0..2 {
+        faults.extend([SeventeenPolicies(place), PolicyZero(place), PolicyRepeats(place)]);
+        faults.extend([SeventeenPairs(place), IssuerZero(place), SubjectZero(place)]);
+    }
+    faults
+}
+
+/// A path of two certificates that has the given faults, in each list in the
+/// order in which they are given.
+pub fn with_faults(faults: &[Fault]) -> Path {
+    let certificate =
+        Certificate { policies: vec![5, 6], mappings: vec![(5, 6)], ..Certificate::default() };
+    let mut certificates = vec![certificate; 2];
+    let mut user = vec![5];
+    let mut count = 2;
+    for &fault in faults {
+        match fault {
+            Fault::NoCertificate => count = 0,
+            Fault::ElevenCertificates => count = MAX_CERTIFICATES + 1,
+            Fault::SeventeenUsers => user.resize(MAX_LIST + 1, 7),
+            Fault::UserZero => user.push(0),
+            Fault::SeventeenPolicies(place) => {
+                let policies = &mut certificates[place].policies;
+                policies.extend((0..=MAX_LIST as u16).map(|number| 100 + number));
+            }
+            Fault::PolicyZero(place) => certificates[place].policies.push(0),
+            Fault::PolicyRepeats(place) => certificates[place].policies.push(5),
+            Fault::SeventeenPairs(place) => {
+                certificates[place].mappings.resize(MAX_LIST + 1, (7, 8));
+            }
+            Fault::IssuerZero(place) => certificates[place].mappings.push((0, 6)),
+            Fault::SubjectZero(place) => certificates[place].mappings.push((5, 0)),
+        }
+    }
+    certificates.resize(count, Certificate::default());
+    Path { user, certificates, ..Path::default() }
+}
