@@ -1,7 +1,7 @@
 #!/usr/bin/env python3
-"""Writes the sheets of document 01's known paths with the answers expected, and the sheets of the two test programs.
+"""Writes the sheets of document 01's known paths and the longest sheet with the answers expected, and the sheets of a test program.
 
-    examples/make_sheets.py     writes examples/*.sheet, examples/*.answer and the data of crates/sheet_check and crates/path_check
+    examples/make_sheets.py     writes examples/*.sheet, examples/*.answer and the data of crates/sheet_check
 
 All of these are stored in the repository; this says what is in them. It packs bits by itself and uses no other code of the project.
 """
@@ -146,11 +146,13 @@ def store(crate, sheets):
 
 
 def main():
-    for name, fields in KNOWN.items():
+    sixteen = list(range(100, 116))
+    known = KNOWN | {"longest": full()}
+    answers = ANSWERS | {"longest": (0, 0, [1] + [16] * 10, sixteen, sixteen)}
+    for name, fields in known.items():
         (ROOT / "examples" / f"{name}.sheet").write_bytes(packed(fields))
-        (ROOT / "examples" / f"{name}.answer").write_text(answer(*ANSWERS[name]))
+        (ROOT / "examples" / f"{name}.answer").write_text(answer(*answers[name]))
     store("sheet_check", test_sheets())
-    store("path_check", {name: packed(fields) for name, fields in KNOWN.items()})
 
 
 if __name__ == "__main__":

@@ -161,11 +161,7 @@ fn buffer_digest(buffer: &[u8]) -> u64 {
 fn least(a: usize, b: usize) -> usize
     ensures { λ r. ⌜ r ≤ b ⌝ }
 {
-    if a < b {
-        a
-    } else {
-        b
-    }
+    if a < b { a } else { b }
 }
 
 fn counts(list: &[u16]) {

@@ -60,6 +60,8 @@ rows =
     ∷ row false false false (1 ∷ []) (certificate false [] [] (Certificates 1) Absent Absent ∷ []) 0 0 (0 ∷ 0 ∷ []) [] []
     -- M
     ∷ row false false false (1 ∷ []) (certificate false (80 ∷ []) [] (Certificates 1) Absent Absent ∷ plain [] [] ∷ []) 10 2 (0 ∷ 0 ∷ 0 ∷ []) [] []
+    -- no certificate: such a path is refused with 3, at place 0
+    ∷ row false false false [] [] 3 0 [] [] []
     -- no graph stays: a certificate without policies, then one that lists anyPolicy
     ∷ row false false false (1 ∷ []) (plain [] [] ∷ plain (1 ∷ []) [] ∷ []) 0 0 (0 ∷ 0 ∷ 0 ∷ []) [] []
     -- no node: 12 is expected by none and no anyPolicy stands, so the graph is gone
@@ -78,6 +80,8 @@ rows =
     ∷ row false false false (11 ∷ 40 ∷ []) (plain (11 ∷ 12 ∷ 1 ∷ []) (11 to 13 ∷ 11 to 14 ∷ 12 to 14 ∷ []) ∷ plain (14 ∷ 1 ∷ []) [] ∷ []) 0 0 (1 ∷ 3 ∷ 3 ∷ []) (1 ∷ 11 ∷ 12 ∷ []) (11 ∷ 40 ∷ [])
     -- anyPolicy rule, under all: 14 under 11 and 12
     ∷ row false false false (1 ∷ []) (plain (11 ∷ 12 ∷ []) (11 to 14 ∷ 12 to 14 ∷ []) ∷ plain (1 ∷ []) [] ∷ []) 0 0 (1 ∷ 2 ∷ 1 ∷ []) (11 ∷ 12 ∷ []) (11 ∷ 12 ∷ [])
+    -- anyPolicy rule, expecting itself: 11 is added at depth 2 and stands at depth 3
+    ∷ row false false false (1 ∷ []) (plain (11 ∷ []) [] ∷ plain (1 ∷ []) [] ∷ plain (11 ∷ []) [] ∷ []) 0 0 (1 ∷ 1 ∷ 1 ∷ 1 ∷ []) (11 ∷ []) (11 ∷ [])
     -- pruning: a branch that dies goes up to the root; and a mapping of the last certificate is ignored
     ∷ row false false false (21 ∷ 1 ∷ []) (plain (21 ∷ 22 ∷ []) [] ∷ plain (21 ∷ 22 ∷ []) [] ∷ plain (22 ∷ []) (22 to 23 ∷ []) ∷ []) 0 0 (1 ∷ 1 ∷ 1 ∷ 1 ∷ []) (22 ∷ []) (22 ∷ [])
     -- 8 before 9 at one certificate
@@ -96,6 +100,9 @@ rows =
     ∷ row true false false (1 ∷ []) (plain [] (71 to 1 ∷ []) ∷ plain (70 ∷ []) [] ∷ []) 9 1 [] [] []
     -- exactly: 11 expects 12 and no longer 11
     ∷ row false false false (1 ∷ []) (plain (11 ∷ []) (11 to 12 ∷ []) ∷ plain (11 ∷ []) [] ∷ []) 0 0 (0 ∷ 0 ∷ 0 ∷ []) [] []
+    -- its own subjects: 13 stands under 11 alone, and 14 under 12 alone
+    ∷ row false false false (1 ∷ []) (plain (11 ∷ 12 ∷ []) (11 to 13 ∷ 12 to 14 ∷ []) ∷ plain (13 ∷ []) [] ∷ []) 0 0 (1 ∷ 1 ∷ 1 ∷ []) (11 ∷ []) (11 ∷ [])
+    ∷ row false false false (1 ∷ []) (plain (11 ∷ 12 ∷ []) (11 to 13 ∷ 12 to 14 ∷ []) ∷ plain (14 ∷ []) [] ∷ []) 0 0 (1 ∷ 1 ∷ 1 ∷ []) (12 ∷ []) (12 ∷ [])
     -- no node and no anyPolicy: the mapping of 12 does nothing
     ∷ row false false false (1 ∷ []) (plain (11 ∷ []) (12 to 13 ∷ []) ∷ plain (11 ∷ 13 ∷ []) [] ∷ []) 0 0 (1 ∷ 1 ∷ 1 ∷ []) (11 ∷ []) (11 ∷ [])
     -- added under anyPolicy: 12 stands at depth 2 already, 15 does not
@@ -170,5 +177,5 @@ path-read (read p at) = p
 
 -- Every known path: graph and tree give the answer expected, and its sheet is read back.
 pub known-paths : map (λ r. record { graph = Graph.judged (r .path); tree = Tree.judged (r .path); read-back = path-read (read-sheet (sheet-of (r .path))) }) rows ≡ map {B = Said} (λ r. record { graph = r .answer; tree = r .answer; read-back = r .path }) rows
-unfolding Graph.judged Tree.judged rows path-read read-sheet sheet-of
+unfolding Graph.judged Tree.judged rows path-read no-path read-sheet sheet-of
 known-paths = refl

@@ -1,5 +1,6 @@
 pub mod Notation
 pub mod KnownFigures
+pub mod KnownSets
 pub mod KnownCounters
 pub mod KnownPaths
 pub mod KnownBounds
