@@ -82,7 +82,7 @@ rows =
     ∷ row false false false (1 ∷ []) (plain (11 ∷ 12 ∷ []) (11 to 14 ∷ 12 to 14 ∷ []) ∷ plain (1 ∷ []) [] ∷ []) 0 0 (1 ∷ 2 ∷ 1 ∷ []) (11 ∷ 12 ∷ []) (11 ∷ 12 ∷ [])
     -- anyPolicy rule, expecting itself: 11 is added at depth 2 and stands at depth 3
     ∷ row false false false (1 ∷ []) (plain (11 ∷ []) [] ∷ plain (1 ∷ []) [] ∷ plain (11 ∷ []) [] ∷ []) 0 0 (1 ∷ 1 ∷ 1 ∷ 1 ∷ []) (11 ∷ []) (11 ∷ [])
-    -- pruning: a branch that dies goes up to the root; and a mapping of the last certificate is ignored
+    -- pruning: a branch that dies goes up to the root
     ∷ row false false false (21 ∷ 1 ∷ []) (plain (21 ∷ 22 ∷ []) [] ∷ plain (21 ∷ 22 ∷ []) [] ∷ plain (22 ∷ []) (22 to 23 ∷ []) ∷ []) 0 0 (1 ∷ 1 ∷ 1 ∷ 1 ∷ []) (22 ∷ []) (22 ∷ [])
     -- 8 before 9 at one certificate
     ∷ row false true false (1 ∷ []) (plain [] (1 to 71 ∷ []) ∷ []) 8 1 [] [] []
@@ -119,6 +119,9 @@ rows =
     ∷ row true false false (1 ∷ []) (plain (11 ∷ 12 ∷ []) (11 to 13 ∷ []) ∷ plain (11 ∷ 12 ∷ 13 ∷ []) [] ∷ []) 0 0 (1 ∷ 1 ∷ 1 ∷ []) (12 ∷ []) (12 ∷ [])
     -- policy_mapping 0: what stood above for 11 alone goes too
     ∷ row true false false (1 ∷ []) (plain (11 ∷ 12 ∷ []) [] ∷ plain (11 ∷ 12 ∷ []) (11 to 13 ∷ []) ∷ plain (11 ∷ 12 ∷ []) [] ∷ []) 0 0 (1 ∷ 1 ∷ 1 ∷ 1 ∷ []) (12 ∷ []) (12 ∷ [])
+    -- the last certificate's mappings are ignored: no node goes where policy_mapping is 0, and none is added under anyPolicy
+    ∷ row true false false (1 ∷ []) (plain (22 ∷ []) (22 to 23 ∷ []) ∷ []) 0 0 (1 ∷ 1 ∷ []) (22 ∷ []) (22 ∷ [])
+    ∷ row false false false (1 ∷ []) (plain (1 ∷ []) (50 to 51 ∷ []) ∷ []) 0 0 (1 ∷ 1 ∷ []) (1 ∷ []) (1 ∷ [])
     -- counters after the mappings: policy_mapping is 1 at certificate 2
     ∷ row false false false (1 ∷ []) (certificate false (11 ∷ []) [] Absent (Certificates 1) Absent ∷ plain (11 ∷ []) (11 to 12 ∷ []) ∷ plain (12 ∷ []) [] ∷ []) 0 0 (1 ∷ 1 ∷ 1 ∷ 1 ∷ []) (11 ∷ []) (11 ∷ [])
     -- explicit_policy falls: 1 at certificate 2, 0 at certificate 3
@@ -151,6 +154,8 @@ rows =
     ∷ row false false false (1 ∷ []) (certificate false (80 ∷ []) [] (Certificates 255) Absent Absent ∷ plain [] [] ∷ []) 0 0 (0 ∷ 0 ∷ 0 ∷ []) [] []
     -- user list, any-policy: whatever else it names
     ∷ row false false false (30 ∷ 1 ∷ []) (plain (1 ∷ []) [] ∷ []) 0 0 (1 ∷ 1 ∷ []) (1 ∷ []) (1 ∷ [])
+    -- user list, any-policy: valid where an explicit policy is required and a policy is carried
+    ∷ row false true false (1 ∷ []) (plain (22 ∷ []) [] ∷ []) 0 0 (1 ∷ 1 ∷ []) (22 ∷ []) (22 ∷ [])
     -- user list, repeats: once, and ascending
     ∷ row false false false (31 ∷ 30 ∷ 31 ∷ []) (plain (1 ∷ []) [] ∷ []) 0 0 (1 ∷ 1 ∷ []) (1 ∷ []) (30 ∷ 31 ∷ [])
     -- user list, repeats: once among the members
