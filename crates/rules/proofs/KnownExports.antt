@@ -5,8 +5,13 @@ use mathlib.Core.List.{List, [], _∷_, _++_, map}
 use mathlib.Core.Path.{_≡_, refl}
 use lib.ListN.{replicate}
 use Rattle.rules.specs.Graph as Graph
-use Rattle.rules.specs.Face.{Judged, sheet-exported, Rewritten, sheet-rewritten}
+use Rattle.rules.specs.declared.Answer.{Answer as StoredAnswer}
+use Rattle.rules.specs.Face.{refused-answer, Judged, sheet-exported, Rewritten, sheet-rewritten}
 use Rattle.rules.proofs.Notation.{filled}
+
+-- A refusal in the code's own type: its number, place 0 and eleven zeros.
+pub known-refused : refused-answer 5 ≡ record { number = 5; place = 0; counts = replicate 11 0 }
+known-refused = refl
 
 sheet-D : List ℕ
 sheet-D = 0x11 ∷ 0x41 ∷ 0x00 ∷ 0x01 ∷ 0x00 ∷ []

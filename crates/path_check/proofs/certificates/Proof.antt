@@ -1,15 +1,15 @@
 -- `certificates` writes only within the places. The invariant: the place is at most their number.
 use Prim.Native.Nat.{_≤_, _-_}
-use lib.ListN.{length}
 use borrow.Author.Needs.{needs}
+use Rattle.rules.specs.Limits as Limits
 use Rattle.path_check.proofs.certificates.Statement.{statement}
 use Rattle.path_check.proofs.certificates.Tie as tie
 
 abbrev Inv-loop : tie.InvT-loop
-Inv-loop «record» places₀ i₀ places i = i ≤ 10
+Inv-loop «record» places₀ i₀ places i = i ≤ Limits.certificates
 
 abbrev μ-loop : tie.MeasureT-loop
-μ-loop «record» places₀ i₀ places i = 10 - i
+μ-loop «record» places₀ i₀ places i = Limits.certificates - i
 
 from-requires : tie.Need-from-requires Inv-loop μ-loop
 from-requires c κs = search needs

@@ -1,3 +1,4 @@
+-- `judged` lends the first places of each table: as many as `least` gives, which are no more than it has.
 use mathlib.Core.Path.{sym}
 use lib.Seq.{length-take-le}
 use borrow.Author.Needs.{needs}

@@ -1,15 +1,15 @@
 -- `list` writes only within the places. The invariant: the place is at most their number.
 use Prim.Native.Nat.{_≤_, _-_}
-use lib.ListN.{length}
 use borrow.Author.Needs.{needs}
+use Rattle.rules.specs.Limits as Limits
 use Rattle.path_check.proofs.list.Statement.{statement}
 use Rattle.path_check.proofs.list.Tie as tie
 
 abbrev Inv-loop : tie.InvT-loop
-Inv-loop «record» at places₀ i₀ places i = i ≤ 16
+Inv-loop «record» at places₀ i₀ places i = i ≤ Limits.listed
 
 abbrev μ-loop : tie.MeasureT-loop
-μ-loop «record» at places₀ i₀ places i = 16 - i
+μ-loop «record» at places₀ i₀ places i = Limits.listed - i
 
 loop-holds : tie.Need-loop-holds Inv-loop μ-loop
 loop-holds c = search needs

@@ -1,6 +1,5 @@
 -- `main` ends: each turn takes one record of those that are left.
 use Prim.Native.Nat.{_≤_, _-_}
-use lib.ListN.{length}
 use borrow.Author.Needs.{needs}
 use Rattle.path_check.proofs.main.Statement.{statement}
 use Rattle.path_check.proofs.main.Tie as tie

@@ -1,3 +1,4 @@
+-- `written` lends the first bytes of the buffer: as many as `least` gives, which are no more than it has.
 use mathlib.Core.Path.{sym}
 use lib.Seq.{length-take-le}
 use borrow.Author.Needs.{needs}
