@@ -117,6 +117,10 @@ rows =
     ∷ row false false false (1 ∷ []) (plain (1 ∷ []) (50 to 51 ∷ 50 to 51 ∷ []) ∷ plain (51 ∷ []) [] ∷ []) 0 0 (1 ∷ 1 ∷ 1 ∷ []) (50 ∷ []) (50 ∷ [])
     -- policy_mapping 0: node 11 goes, and 12 stays
     ∷ row true false false (1 ∷ []) (plain (11 ∷ 12 ∷ []) (11 to 13 ∷ []) ∷ plain (11 ∷ 12 ∷ 13 ∷ []) [] ∷ []) 0 0 (1 ∷ 1 ∷ 1 ∷ []) (12 ∷ []) (12 ∷ [])
+    -- policy_mapping 0: node 11 goes, listed after 12
+    ∷ row true false false (1 ∷ []) (plain (12 ∷ 11 ∷ []) (11 to 13 ∷ []) ∷ plain (11 ∷ 12 ∷ 13 ∷ []) [] ∷ []) 0 0 (1 ∷ 1 ∷ 1 ∷ []) (12 ∷ []) (12 ∷ [])
+    -- policy_mapping 0: node 11 goes and anyPolicy stays, so that 11 and 13 stand under it
+    ∷ row true false false (1 ∷ []) (plain (11 ∷ 1 ∷ []) (11 to 12 ∷ []) ∷ plain (11 ∷ 13 ∷ []) [] ∷ []) 0 0 (1 ∷ 1 ∷ 2 ∷ []) (11 ∷ 13 ∷ []) (11 ∷ 13 ∷ [])
     -- policy_mapping 0: what stood above for 11 alone goes too
     ∷ row true false false (1 ∷ []) (plain (11 ∷ 12 ∷ []) [] ∷ plain (11 ∷ 12 ∷ []) (11 to 13 ∷ []) ∷ plain (11 ∷ 12 ∷ []) [] ∷ []) 0 0 (1 ∷ 1 ∷ 1 ∷ 1 ∷ []) (12 ∷ []) (12 ∷ [])
     -- the last certificate's mappings are ignored: no node goes where policy_mapping is 0, and none is added under anyPolicy
@@ -156,6 +160,10 @@ rows =
     ∷ row false false false (30 ∷ 1 ∷ []) (plain (1 ∷ []) [] ∷ []) 0 0 (1 ∷ 1 ∷ []) (1 ∷ []) (1 ∷ [])
     -- user list, any-policy: valid where an explicit policy is required and a policy is carried
     ∷ row false true false (1 ∷ []) (plain (22 ∷ []) [] ∷ []) 0 0 (1 ∷ 1 ∷ []) (22 ∷ []) (22 ∷ [])
+    -- user list, members: 12 and 13, and neither those listed before them nor those after
+    ∷ row false true false (13 ∷ 12 ∷ []) (plain (10 ∷ 11 ∷ 12 ∷ 13 ∷ 14 ∷ 15 ∷ []) [] ∷ []) 0 0 (1 ∷ 6 ∷ []) (10 ∷ 11 ∷ 12 ∷ 13 ∷ 14 ∷ 15 ∷ []) (12 ∷ 13 ∷ [])
+    -- user list, members: none of two, so 10
+    ∷ row false true false (13 ∷ []) (plain (11 ∷ 12 ∷ []) [] ∷ []) 10 1 (1 ∷ 2 ∷ []) (11 ∷ 12 ∷ []) []
     -- user list, repeats: once, and ascending
     ∷ row false false false (31 ∷ 30 ∷ 31 ∷ []) (plain (1 ∷ []) [] ∷ []) 0 0 (1 ∷ 1 ∷ []) (1 ∷ []) (30 ∷ 31 ∷ [])
     -- user list, repeats: once among the members
