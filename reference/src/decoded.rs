@@ -160,3 +160,43 @@ pub fn with_faults(faults: &[Fault]) -> Path {
     certificates.resize(count, Certificate::default());
     Path { user, certificates, ..Path::default() }
 }
+
+#[cfg(test)]
+mod tests {
+    use super::*;
+
+    fn refused(faults: &[Fault]) -> u8 {
+        sheet::refusal(&with_faults(faults)).expect_err("a fault")
+    }
+
+    #[test]
+    fn each_fault_alone() {
+        let numbers: Vec<u8> = faults().into_iter().map(|fault| refused(&[fault])).collect();
+        assert_eq!(numbers, [3, 3, 3, 4, 3, 4, 5, 3, 4, 4, 3, 4, 5, 3, 4, 4]);
+        assert_eq!(sheet::refusal(&with_faults(&[])), Ok(()));
+    }
+
+    #[test]
+    fn the_earlier_field_is_given() {
+        use Fault::*;
+        assert_eq!(refused(&[UserZero, NoCertificate]), 3);
+        assert_eq!(refused(&[UserZero, SeventeenUsers]), 3);
+        assert_eq!(refused(&[SeventeenPolicies(0), UserZero]), 4);
+        assert_eq!(refused(&[PolicyRepeats(0), SeventeenPolicies(0)]), 3);
+        assert_eq!(refused(&[SeventeenPairs(0), PolicyRepeats(0)]), 5);
+        assert_eq!(refused(&[IssuerZero(0), PolicyRepeats(0)]), 5);
+        assert_eq!(refused(&[SubjectZero(0), SeventeenPairs(0)]), 3);
+        assert_eq!(refused(&[PolicyRepeats(1), SubjectZero(0)]), 4);
+        assert_eq!(refused(&[PolicyZero(0), PolicyRepeats(0)]), 4);
+        assert_eq!(refused(&[PolicyRepeats(0), PolicyZero(0)]), 5);
+    }
+
+    #[test]
+    fn a_record_has_every_place() {
+        let numbers = 3 + 3 + 1 + 16 + 1 + 10 * (1 + 1 + 16 + 1 + 16 + 16 + 3);
+        for faults in [&[][..], &[Fault::ElevenCertificates], &[Fault::SeventeenPolicies(1)]] {
+            let record = record(&with_faults(faults), ENOUGH, &mut || 9);
+            assert_eq!(record.len(), 2 * numbers);
+        }
+    }
+}
