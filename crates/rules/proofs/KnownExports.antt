@@ -7,20 +7,11 @@ use lib.ListN.{replicate}
 use Rattle.rules.specs.Graph as Graph
 use Rattle.rules.specs.declared.Answer.{Answer as StoredAnswer}
 use Rattle.rules.specs.Face.{refused-answer, Judged, sheet-exported, Rewritten, sheet-rewritten}
-use Rattle.rules.proofs.Notation.{filled}
+use Rattle.rules.proofs.Notation.{filled, sheet-D, sheet-E, sheet-H}
 
 -- A refusal in the code's own type: its number, place 0 and eleven zeros.
 pub known-refused : refused-answer 5 ≡ record { number = 5; place = 0; counts = replicate 11 0 }
 known-refused = refl
-
-sheet-D : List ℕ
-sheet-D = 0x11 ∷ 0x41 ∷ 0x00 ∷ 0x01 ∷ 0x00 ∷ []
-
-sheet-E : List ℕ
-sheet-E = 0x11 ∷ 0x02 ∷ 0x00 ∷ 0x1E ∷ 0x00 ∷ 0x1F ∷ 0x42 ∷ 0x00 ∷ 0x02 ∷ 0x00 ∷ []
-
-sheet-H : List ℕ
-sheet-H = 0x12 ∷ 0x41 ∷ 0x00 ∷ 0x33 ∷ 0x42 ∷ 0x00 ∷ 0x03 ∷ 0x08 ∷ 0x01 ∷ 0x90 ∷ 0x01 ∷ 0x98 ∷ 0x42 ∷ 0x00 ∷ 0x66 ∷ 0x00 ∷ []
 
 -- a sheet, the three slices at entry, and what is expected
 pub record Row : Type 0 where

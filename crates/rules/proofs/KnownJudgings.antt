@@ -11,7 +11,7 @@ use Rattle.rules.specs.declared.Answer.{Answer as StoredAnswer}
 use Rattle.rules.specs.Graph as Graph
 use Rattle.rules.specs.Tree as Tree
 use Rattle.rules.specs.Judge.{Outcome, outcome, sheet-judged, path-judged}
-use Rattle.rules.proofs.Notation.{filled, stored-plain, stored-path}
+use Rattle.rules.proofs.Notation.{filled, stored-plain, stored-path, sheet-A, sheet-D, sheet-E, sheet-H, sheet-K}
 
 -- what is handed over, the two tables at entry, and the outcome expected
 pub record Row (A : Type 0) : Type 0 where
@@ -34,21 +34,6 @@ refusal x a u k = row x a u k 0 (replicate 11 0) (replicate a 7) (replicate u 8)
 verdict : {A : Type 0} → A → ℕ → ℕ → ℕ → ℕ → List ℕ → List ℕ → List ℕ → Row A
 unfolding row filled
 verdict x a u k i ns as′ us′ = row x a u k i (filled 11 0 ns) (filled a 0 as′) (filled u 0 us′)
-
-sheet-A : List ℕ
-sheet-A = 0x12 ∷ 0x01 ∷ 0x00 ∷ 0x01 ∷ 0x46 ∷ 0x00 ∷ 0x16 ∷ 0x00 ∷ 0x18 ∷ 0x00 ∷ 0x1F ∷ 0x10 ∷ 0x00 ∷ 0x58 ∷ 0x00 ∷ 0x68 ∷ 0x00 ∷ 0x58 ∷ 0x00 ∷ 0x70 ∷ 0x46 ∷ 0x00 ∷ 0x18 ∷ 0x00 ∷ 0x1A ∷ 0x00 ∷ 0x20 ∷ 0x00 ∷ []
-
-sheet-D : List ℕ
-sheet-D = 0x11 ∷ 0x41 ∷ 0x00 ∷ 0x01 ∷ 0x00 ∷ []
-
-sheet-E : List ℕ
-sheet-E = 0x11 ∷ 0x02 ∷ 0x00 ∷ 0x1E ∷ 0x00 ∷ 0x1F ∷ 0x42 ∷ 0x00 ∷ 0x02 ∷ 0x00 ∷ []
-
-sheet-H : List ℕ
-sheet-H = 0x12 ∷ 0x41 ∷ 0x00 ∷ 0x33 ∷ 0x42 ∷ 0x00 ∷ 0x03 ∷ 0x08 ∷ 0x01 ∷ 0x90 ∷ 0x01 ∷ 0x98 ∷ 0x42 ∷ 0x00 ∷ 0x66 ∷ 0x00 ∷ []
-
-sheet-K : List ℕ
-sheet-K = 0x11 ∷ 0x01 ∷ 0x00 ∷ 0x01 ∷ 0x42 ∷ 0x00 ∷ 0x8D ∷ 0x08 ∷ 0x00 ∷ 0x08 ∷ 0x02 ∷ 0x38 ∷ []
 
 unfoldable pub sheet-rows : List (Row (List ℕ))
 unfolding verdict refusal row sheet-A sheet-D sheet-E sheet-H sheet-K

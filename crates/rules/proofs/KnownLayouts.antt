@@ -13,7 +13,7 @@ use Rattle.rules.specs.declared.Reading.{Reading as StoredReading}
 use Rattle.rules.specs.Paths.{Path}
 use Rattle.rules.specs.Layout.{path-of, cleared}
 use Rattle.rules.specs.Sheet.{reading}
-use Rattle.rules.proofs.Notation.{_to_, certificate, plain, path, filled, stored-certificate, stored-plain, stored-path}
+use Rattle.rules.proofs.Notation.{_to_, certificate, plain, path, filled, stored-certificate, stored-plain, stored-path, sheet-E}
 
 -- A certificate whose unused places are zero: sixteen places in each array.
 clear-certificate : Bool → ℕ → List ℕ → ℕ → List ℕ → List ℕ → Skip → Skip → Skip → StoredCertificate
@@ -85,10 +85,10 @@ pub record ReadingRow : Type 0 where
   pub reading : StoredReading
 
 unfoldable pub reading-rows : List ReadingRow
-unfolding clear-path clear-certificate clear-none
+unfolding clear-path clear-certificate clear-none sheet-E
 reading-rows =
     -- case E: "On success reader and writer answer 0", and "unused places are zero or absent after reading"
-    record { bytes = 0x11 ∷ 0x02 ∷ 0x00 ∷ 0x1E ∷ 0x00 ∷ 0x1F ∷ 0x42 ∷ 0x00 ∷ 0x02 ∷ 0x00 ∷ []; reading = record { number = 0; path = clear-path false false false 2 (30 ∷ 31 ∷ []) 1 (clear-certificate false 1 (1 ∷ []) 0 [] [] Absent Absent Absent) clear-none } }
+    record { bytes = sheet-E; reading = record { number = 0; path = clear-path false false false 2 (30 ∷ 31 ∷ []) 1 (clear-certificate false 1 (1 ∷ []) 0 [] [] Absent Absent Absent) clear-none } }
     -- case E with a fill bit set: the refusal's number, and the path "all cleared on refusal"
     ∷ record { bytes = 0x11 ∷ 0x02 ∷ 0x00 ∷ 0x1E ∷ 0x00 ∷ 0x1F ∷ 0x42 ∷ 0x00 ∷ 0x02 ∷ 0x01 ∷ []; reading = record { number = 6; path = clear-path false false false 0 [] 0 clear-none clear-none } }
     ∷ []

@@ -7,7 +7,7 @@ use lib.ListN.{replicate}
 use Rattle.rules.specs.declared.Path.{Path as StoredPath}
 use Rattle.rules.specs.declared.Writing.{Writing as StoredWriting}
 use Rattle.rules.specs.Sheet.{Written, written, as-written}
-use Rattle.rules.proofs.Notation.{stored-plain, stored-path}
+use Rattle.rules.proofs.Notation.{stored-plain, stored-path, sheet-E}
 
 pub record Row : Type 0 where
   pub path : StoredPath
@@ -32,11 +32,8 @@ listing : ℕ → ℕ → StoredPath
 unfolding stored-path stored-plain
 listing p q = stored-path false false false 0 [] 1 (stored-plain 2 (p ∷ q ∷ []) 0 [] [] ∷ [])
 
-case-E-sheet : List ℕ
-case-E-sheet = 0x11 ∷ 0x02 ∷ 0x00 ∷ 0x1E ∷ 0x00 ∷ 0x1F ∷ 0x42 ∷ 0x00 ∷ 0x02 ∷ 0x00 ∷ []
-
 unfoldable pub rows : List Row
-unfolding row old case-E-with listing case-E-sheet
+unfolding row old case-E-with listing sheet-E
 rows =
     -- a buffer of 1,043 bytes: 7, length 0, the buffer unchanged
     row (case-E-with 2 1) (old 1043) 7 0 (old 1043)
@@ -46,9 +43,9 @@ rows =
     ∷ row (case-E-with 2 0) (old 1043) 7 0 (old 1043)
     ∷ row (listing 5 5) (old 1043) 7 0 (old 1043)
     -- a buffer of 1,044 bytes: 0, the sheet first, and every later byte unchanged
-    ∷ row (case-E-with 2 1) (old 1044) 0 10 (case-E-sheet ++ old 1034)
+    ∷ row (case-E-with 2 1) (old 1044) 0 10 (sheet-E ++ old 1034)
     -- a longer buffer
-    ∷ row (case-E-with 2 1) (old 1046) 0 10 (case-E-sheet ++ old 1036)
+    ∷ row (case-E-with 2 1) (old 1046) 0 10 (sheet-E ++ old 1036)
     -- the refusals 3, 4 and 5: length 0, the buffer unchanged
     ∷ row (case-E-with 17 1) (old 1044) 3 0 (old 1044)
     ∷ row (listing 5 0) (old 1044) 4 0 (old 1044)
