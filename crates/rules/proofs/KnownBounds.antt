@@ -1,11 +1,11 @@
 -- The bound of demand 3 as figures: one table, and one claim that covers every row, by computation; and counts that keep it or break it.
-use Prim.Native.Nat.{ℕ, zero, suc, _≤_, _<_}
+use Prim.Native.Nat.{ℕ, zero, suc, _≤_}
 use mathlib.Core.Bool.{false}
 use mathlib.Core.List.{List, [], _∷_, map}
 use mathlib.Core.Path.{_≡_, refl}
 use native.Mathlib.Omega.{arith}
-use lib.ListN.{length, getD}
-use Rattle.rules.specs.Paths.{Path, Certificate, listed-to}
+use lib.ListN.{getD}
+use Rattle.rules.specs.Paths.{Path, listed-to}
 use Rattle.rules.specs.Judge.{Bounded}
 use Rattle.rules.proofs.Notation.{_to_, certificate, plain, path}
 

@@ -5,7 +5,6 @@ use mathlib.Core.List.{List, [], _∷_, _++_, map}
 use mathlib.Core.Path.{_≡_, refl}
 use lib.ListN.{replicate}
 use Rattle.rules.specs.Graph as Graph
-use Rattle.rules.specs.declared.Answer.{Answer as StoredAnswer}
 use Rattle.rules.specs.Face.{refused-answer, Judged, sheet-exported, Rewritten, sheet-rewritten}
 use Rattle.rules.proofs.Notation.{filled, sheet-D, sheet-E, sheet-H}
 

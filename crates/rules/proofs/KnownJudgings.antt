@@ -7,7 +7,6 @@ use mathlib.Core.Path.{_≡_, refl}
 use lib.ListN.{replicate}
 use Rattle.rules.specs.declared.Certificate.{Certificate as StoredCertificate}
 use Rattle.rules.specs.declared.Path.{Path as StoredPath}
-use Rattle.rules.specs.declared.Answer.{Answer as StoredAnswer}
 use Rattle.rules.specs.Graph as Graph
 use Rattle.rules.specs.Tree as Tree
 use Rattle.rules.specs.Judge.{Outcome, outcome, sheet-judged, path-judged}

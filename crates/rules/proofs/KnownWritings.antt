@@ -5,7 +5,6 @@ use mathlib.Core.List.{List, [], _∷_, _++_, map}
 use mathlib.Core.Path.{_≡_, refl}
 use lib.ListN.{replicate}
 use Rattle.rules.specs.declared.Path.{Path as StoredPath}
-use Rattle.rules.specs.declared.Writing.{Writing as StoredWriting}
 use Rattle.rules.specs.Sheet.{Written, written, as-written}
 use Rattle.rules.proofs.Notation.{stored-plain, stored-path, sheet-E}
 
