@@ -164,8 +164,12 @@ rows =
     ∷ row false true false (13 ∷ 12 ∷ []) (plain (10 ∷ 11 ∷ 12 ∷ 13 ∷ 14 ∷ 15 ∷ []) [] ∷ []) 0 0 (1 ∷ 6 ∷ []) (10 ∷ 11 ∷ 12 ∷ 13 ∷ 14 ∷ 15 ∷ []) (12 ∷ 13 ∷ [])
     -- user list, members: none of two, so 10
     ∷ row false true false (13 ∷ []) (plain (11 ∷ 12 ∷ []) [] ∷ []) 10 1 (1 ∷ 2 ∷ []) (11 ∷ 12 ∷ []) []
+    -- user list, members: ascending, though they are listed in another order
+    ∷ row false false false (20 ∷ 30 ∷ []) (plain (30 ∷ 20 ∷ []) [] ∷ []) 0 0 (1 ∷ 2 ∷ []) (20 ∷ 30 ∷ []) (20 ∷ 30 ∷ [])
+    -- a policy under anyPolicy at two depths is in each set once
+    ∷ row false false false (11 ∷ []) (plain (11 ∷ 1 ∷ []) (11 to 12 ∷ []) ∷ plain (11 ∷ 12 ∷ []) [] ∷ []) 0 0 (1 ∷ 2 ∷ 2 ∷ []) (11 ∷ []) (11 ∷ [])
     -- user list, repeats: once, and ascending
-    ∷ row false false false (31 ∷ 30 ∷ 31 ∷ []) (plain (1 ∷ []) [] ∷ []) 0 0 (1 ∷ 1 ∷ []) (1 ∷ []) (30 ∷ 31 ∷ [])
+    ∷ row false false false (31 ∷ 30 ∷ 31 ∷ 30 ∷ []) (plain (1 ∷ []) [] ∷ []) 0 0 (1 ∷ 1 ∷ []) (1 ∷ []) (30 ∷ 31 ∷ [])
     -- user list, repeats: once among the members
     ∷ row false false false (22 ∷ 22 ∷ []) (plain (23 ∷ 22 ∷ []) [] ∷ []) 0 0 (1 ∷ 2 ∷ []) (22 ∷ 23 ∷ []) (22 ∷ [])
     -- user list, empty: nothing, though anyPolicy stands at depth n
