@@ -19,7 +19,7 @@ unfoldable pub rows : List Row
 unfolding _is_ bytes bit field put-field bits-of packed
 rows =
     -- the bits of a byte, the most significant first, of the next, and zero beyond the end
-    (map (bit (0xA5 ∷ 0x3C ∷ [])) (0 ∷ 1 ∷ 2 ∷ 3 ∷ 4 ∷ 5 ∷ 6 ∷ 7 ∷ 8 ∷ 9 ∷ 10 ∷ 11 ∷ 12 ∷ 13 ∷ 14 ∷ 15 ∷ 16 ∷ []) is (1 ∷ 0 ∷ 1 ∷ 0 ∷ 0 ∷ 1 ∷ 0 ∷ 1 ∷ 0 ∷ 0 ∷ 1 ∷ 1 ∷ 1 ∷ 1 ∷ 0 ∷ 0 ∷ 0 ∷ []))
+    (map (bit (0xA5 ∷ 0x3C ∷ [])) (0 ∷ 1 ∷ 2 ∷ 3 ∷ 4 ∷ 5 ∷ 6 ∷ 7 ∷ 8 ∷ 9 ∷ 10 ∷ 11 ∷ 12 ∷ 13 ∷ 14 ∷ 15 ∷ 23 ∷ []) is (1 ∷ 0 ∷ 1 ∷ 0 ∷ 0 ∷ 1 ∷ 0 ∷ 1 ∷ 0 ∷ 0 ∷ 1 ∷ 1 ∷ 1 ∷ 1 ∷ 0 ∷ 0 ∷ 0 ∷ []))
     -- fields within a byte, over two bytes and over three, and of no bit
     ∷ ((field bytes 0 1 ∷ field bytes 0 4 ∷ field bytes 4 4 ∷ field bytes 1 8 ∷ field bytes 6 5 ∷ field bytes 3 16 ∷ field bytes 8 16 ∷ field bytes 7 1 ∷ field bytes 5 0 ∷ []) is (1 ∷ 10 ∷ 5 ∷ 74 ∷ 9 ∷ 10724 ∷ 15510 ∷ 1 ∷ 0 ∷ []))
     -- put within a byte
