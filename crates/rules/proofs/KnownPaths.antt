@@ -1,5 +1,5 @@
 -- Paths with known outcomes: document 01's, as the fields of their sheets and the answers expected, and paths that pin each clause of the rules.
--- One table, and one claim that covers every row for the graph, the tree and the sheet's round trip, by computation.
+-- One table, and one claim that covers every row for the graph and the tree, by computation.
 use Prim.Native.Nat.{ℕ}
 use mathlib.Core.Bool.{Bool, true, false}
 use mathlib.Core.List.{List, [], _∷_, map}
@@ -7,8 +7,6 @@ use mathlib.Core.Path.{_≡_, refl}
 use Rattle.rules.specs.declared.Skip.the-variants.{Absent, Certificates}
 use Rattle.rules.specs.Paths.{Path, Certificate}
 use Rattle.rules.specs.Answers.{Answer}
-use Rattle.rules.specs.Layout.{no-path}
-use Rattle.rules.specs.Sheet.{Read, refused, read, read-sheet, sheet-of}
 use Rattle.rules.specs.Graph as Graph
 use Rattle.rules.specs.Tree as Tree
 use Rattle.rules.proofs.Notation.{_to_, certificate, plain, path}
@@ -182,17 +180,12 @@ rows =
     ∷ row false false false (1 ∷ []) (plain (1 ∷ 30 ∷ 20 ∷ []) [] ∷ plain (20 ∷ 40 ∷ 1 ∷ 30 ∷ 10 ∷ []) [] ∷ []) 0 0 (1 ∷ 3 ∷ 5 ∷ []) (1 ∷ 10 ∷ 20 ∷ 30 ∷ 40 ∷ []) (1 ∷ 10 ∷ 20 ∷ 30 ∷ 40 ∷ [])
     ∷ []
 
--- what the graph says, what the tree says, and the path that reading its sheet gives
+-- what the graph says, and what the tree says
 pub record Said : Type 0 where
   pub graph : Answer
   pub tree : Answer
-  pub read-back : Path
 
-unfoldable pub path-read : Read Path → Path
-path-read (refused k) = no-path
-path-read (read p at) = p
-
--- Every known path: graph and tree give the answer expected, and its sheet is read back.
-pub known-paths : map (λ r. record { graph = Graph.judged (r .path); tree = Tree.judged (r .path); read-back = path-read (read-sheet (sheet-of (r .path))) }) rows ≡ map {B = Said} (λ r. record { graph = r .answer; tree = r .answer; read-back = r .path }) rows
-unfolding Graph.judged Tree.judged rows path-read no-path read-sheet sheet-of
+-- Every known path: graph and tree give the answer expected.
+pub known-paths : map (λ r. record { graph = Graph.judged (r .path); tree = Tree.judged (r .path) }) rows ≡ map {B = Said} (λ r. record { graph = r .answer; tree = r .answer }) rows
+unfolding Graph.judged Tree.judged rows
 known-paths = refl

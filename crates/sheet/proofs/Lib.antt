@@ -8,3 +8,4 @@ pub mod Whole
 pub mod Sheet
 pub mod Longest
 pub mod Decoded
+pub mod Known
