@@ -63,6 +63,8 @@ rows =
     ∷ row (plain (11 ∷ 1 ∷ []) [] ∷ plain (11 ∷ 1 ∷ []) (50 to 51 ∷ []) ∷ plain (11 ∷ 51 ∷ []) [] ∷ []) 3 ((1 ∷ []) ∷ (11 ∷ 1 ∷ []) ∷ (11 ∷ 50 ∷ []) ∷ (11 ∷ 51 ∷ []) ∷ [])
     -- the intersection: 11 goes with all below it, and a childless node above it
     ∷ row-for (12 ∷ []) (plain (11 ∷ 12 ∷ 1 ∷ []) [] ∷ plain (11 ∷ 12 ∷ 13 ∷ []) [] ∷ []) 1 ((1 ∷ []) ∷ (12 ∷ []) ∷ (12 ∷ []) ∷ [])
+    -- the intersection: what stands below 11, which is on the user list, stays, though 13 and 14 are not
+    ∷ row-for (11 ∷ []) (plain (11 ∷ []) (11 to 13 ∷ 11 to 14 ∷ []) ∷ plain (13 ∷ 14 ∷ []) [] ∷ []) 1 ((1 ∷ []) ∷ (11 ∷ []) ∷ (13 ∷ 14 ∷ []) ∷ [])
     -- the intersection: a child for each policy on the user list that no node directly under anyPolicy has, once, and anyPolicy goes
     ∷ row-for (12 ∷ 30 ∷ 30 ∷ []) (plain (12 ∷ 1 ∷ []) [] ∷ []) 0 ((1 ∷ []) ∷ (12 ∷ 30 ∷ []) ∷ [])
     ∷ row-for (12 ∷ 30 ∷ []) (plain (12 ∷ 1 ∷ []) [] ∷ plain (12 ∷ 1 ∷ []) [] ∷ []) 1 ((1 ∷ []) ∷ (12 ∷ 1 ∷ []) ∷ (12 ∷ 30 ∷ []) ∷ [])
