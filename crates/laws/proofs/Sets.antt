@@ -86,6 +86,14 @@ unfolding pick
 pick-ap f true x y = refl
 pick-ap f false x y = refl
 
+pub pick-yes {ℓ} : {A : Type ℓ} (x y : A) {b : Bool} → b ≡ true → pick b x y ≡ x
+unfolding pick
+pick-yes x y e = ap (λ b. pick b x y) e
+
+pub pick-no {ℓ} : {A : Type ℓ} (x y : A) {b : Bool} → b ≡ false → pick b x y ≡ y
+unfolding pick
+pick-no x y e = ap (λ b. pick b x y) e
+
 pub pick-both {ℓ} : {A : Type ℓ} (b : Bool) (x : A) → pick b x x ≡ x
 unfolding pick
 pick-both true x = refl
