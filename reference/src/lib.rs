@@ -4,7 +4,9 @@
 pub mod answer;
 pub mod counters;
 pub mod decoded;
+pub mod everyday;
 pub mod graph;
+pub mod harm;
 #[cfg(feature = "library")]
 pub mod judge;
 pub mod known;
@@ -12,4 +14,5 @@ pub mod lent;
 pub mod path;
 pub mod random;
 pub mod sheet;
+pub mod stack;
 pub mod tree;

@@ -46,3 +46,8 @@ impl Certificate {
         self.mappings.iter().any(|&(issuer, subject)| issuer == ANY || subject == ANY)
     }
 }
+
+/// Mapping pairs: each issuer policy with the subject policy at its place.
+pub fn pairs(issuers: &[u16], subjects: &[u16]) -> Vec<(u16, u16)> {
+    issuers.iter().copied().zip(subjects.iter().copied()).collect()
+}

@@ -379,6 +379,11 @@ fn full_certificate(kind: Full, place: u16, random: &mut Random) -> Certificate 
     };
     random.shuffle(&mut policies);
     random.shuffle(&mut mappings);
+    longest_certificate(policies, mappings)
+}
+
+/// A certificate that has all skip values, each too large to matter.
+pub fn longest_certificate(policies: Vec<u16>, mappings: Vec<(u16, u16)>) -> Certificate {
     Certificate {
         self_issued: false,
         policies,

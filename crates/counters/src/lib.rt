@@ -1,15 +1,11 @@
 // The counters of RFC 5280 6.1.2 (d) to (f): explicit_policy, policy_mapping and inhibit_anyPolicy.
 ghost use mathlib.Core.Path.{_≡_};
 ghost use Prim.Native.Nat.{suc, pred, _≤_};
-ghost use lib.ListN.{length};
 ghost use Rattle.rules.specs.Limits as Limits;
 ghost use Rattle.rules.specs.Sets.{pick};
 ghost use Rattle.rules.specs.Counters as rule;
-ghost use Rattle.rules.specs.Layout.{certificate-of, path-of};
-ghost use Rattle.counters.specs.Counted.{counted};
-use rules::Certificate;
-use rules::Path;
-use rules::Skip;
+ghost use Rattle.record.specs.Unpacked.{skip-of};
+ghost use Rattle.counters.specs.Counted.{counted, started, passed};
 
 pub struct Counters {
     pub explicit: usize,
@@ -25,19 +21,15 @@ fn unless(flag: bool, n: usize) -> usize
     if flag { 0 } else { n + 1 }
 }
 
-// Where each counter starts.
-pub fn start(path: Path) -> Counters
-    requires { ⌜ path .«certificate_count» ≤ Limits.certificates ⌝ }
-    ensures { λ r. ⌜ counted r ≡ rule.at-start (path-of path) ⌝ }
+// Where each counter starts, by its flag.
+pub fn start(explicit_policy: bool, mapping_inhibit: bool, any_inhibit: bool, n: usize) -> Counters
+    requires { ⌜ n ≤ Limits.certificates ⌝ }
+    ensures { λ r. ⌜ counted r ≡ started «explicit_policy» «mapping_inhibit» «any_inhibit» n ⌝ }
 {
-    let n = path.certificate_count;
-    let explicit = unless(path.explicit_policy, n);
-    let mapping = unless(path.mapping_inhibit, n);
-    let any = unless(path.any_policy_inhibit, n);
     Counters {
-        explicit,
-        mapping,
-        any,
+        explicit: unless(explicit_policy, n),
+        mapping: unless(mapping_inhibit, n),
+        any: unless(any_inhibit, n),
     }
 }
 
@@ -55,51 +47,35 @@ fn fallen(self_issued: bool, k: usize) -> usize
     if self_issued { k } else { less_one(k) }
 }
 
-// "each present skip value below its counter replaces it"
-fn lowered(skip: Skip, k: usize) -> usize
-    ensures { λ r. ⌜ r ≡ rule.lowered skip k ⌝ }
+// "each present skip value below its counter replaces it"; the skip value as a record has it, 0 absent, else the value and 1
+fn lowered(skip: u16, k: usize) -> usize
+    ensures { λ r. ⌜ r ≡ rule.lowered (skip-of skip) k ⌝ }
 {
-    match skip {
-        Skip::Absent => k,
-        Skip::Certificates(v) => {
-            let m = v as usize;
-            if m < k { m } else { k }
-        }
+    if skip == 0 {
+        return k;
     }
+    let m = (skip - 1) as usize;
+    if m < k { m } else { k }
 }
 
-// After the mappings of a certificate before the last.
-pub fn after(c: Certificate, k: Counters) -> Counters
-    ensures { λ r. ⌜ counted r ≡ rule.after (certificate-of c) (counted k) ⌝ }
+// After the mappings of a certificate before the last, by its flag and its three skip values.
+pub fn after(self_issued: bool, explicit: u16, mapping: u16, any: u16, k: Counters) -> Counters
+    ensures { λ r. ⌜ counted r ≡ passed «self_issued» (skip-of explicit) (skip-of mapping) (skip-of any) (counted k) ⌝ }
 {
-    let s = c.self_issued;
-    let require_explicit = c.require_explicit_policy;
-    let inhibit_mapping = c.inhibit_policy_mapping;
-    let inhibit_any = c.inhibit_any_policy;
-    let explicit = lowered(require_explicit, fallen(s, k.explicit));
-    let mapping = lowered(inhibit_mapping, fallen(s, k.mapping));
-    let any = lowered(inhibit_any, fallen(s, k.any));
     Counters {
-        explicit,
-        mapping,
-        any,
+        explicit: lowered(explicit, fallen(self_issued, k.explicit)),
+        mapping: lowered(mapping, fallen(self_issued, k.mapping)),
+        any: lowered(any, fallen(self_issued, k.any)),
     }
 }
 
-// "if certificate n has requireExplicitPolicy 0, it becomes 0"
-fn zeroed(skip: Skip, k: usize) -> usize
-    ensures { λ r. ⌜ r ≡ rule.zeroed skip k ⌝ }
+// explicit_policy at the end: it "falls by 1 if above 0", and "if certificate n has requireExplicitPolicy 0, it becomes 0".
+pub fn explicit_at_end(require_explicit: u16, explicit: usize) -> usize
+    ensures { λ r. ⌜ r ≡ rule.zeroed (skip-of «require_explicit») (pred explicit) ⌝ }
 {
-    match skip {
-        Skip::Absent => k,
-        Skip::Certificates(v) => if v == 0 { 0 } else { k },
+    if require_explicit == 1 {
+        0
+    } else {
+        less_one(explicit)
     }
-}
-
-// explicit_policy at the end: it "falls by 1 if above 0", and c is certificate n.
-pub fn explicit_at_end(c: Certificate, k: Counters) -> usize
-    ensures { λ r. ⌜ r ≡ (rule.at-end (certificate-of c) (counted k)) .explicit ⌝ }
-{
-    let require_explicit = c.require_explicit_policy;
-    zeroed(require_explicit, less_one(k.explicit))
 }

@@ -1,180 +1,91 @@
-// The depths after certificate n: nodes without children go, from the deepest up, and what is left is counted.
-ghost use mathlib.Core.Bool.{_&&_};
-ghost use mathlib.Core.List.{[], _∷_, _++_};
+// The rows after certificate n: nodes without children go, from the last row up, and what is left is counted.
+ghost use mathlib.Core.List.{[], _∷_};
 ghost use mathlib.Core.Path.{_≡_};
-ghost use Prim.Native.Nat.{_+_, _-_, _≤_};
+ghost use Prim.Native.Nat.{_*_, _<_, _≤_};
 ghost use lib.Dec.{eqb};
-ghost use lib.ListN.{length};
+ghost use lib.ListN.{length, replicate};
 ghost use Rattle.rules.specs.Limits as Limits;
-ghost use Rattle.rules.specs.Sets.{pick, select, ascending};
-ghost use Rattle.rules.specs.Layout.{certificate-of, placed};
-ghost use Rattle.levels.proofs.Levels as graph;
-ghost use Rattle.sets.specs.Set.{Ascends, stored};
-ghost use Rattle.depths.specs.Depth.{Held, Sound, set-of, level-of, stored-level, steps-of};
-ghost use Rattle.prune.specs.Children.{child-by, standing, left, authority-left, Deepest, Walked};
-use depths::Level;
-use depths::members;
-use rules::ANY;
-use rules::CERTIFICATES;
-use rules::Certificate;
+ghost use Rattle.rules.specs.Sets.{pick};
+ghost use Rattle.rules.specs.Layout.{placed};
+ghost use Rattle.levels.proofs.Levels.{counts-of};
+ghost use Rattle.names.specs.Places.{at};
+ghost use Rattle.places.specs.Numbered.{Numbered};
+ghost use Rattle.rows.specs.Read.{Small, inherited-of};
+ghost use Rattle.rows.specs.Store.{Clear};
+ghost use Rattle.prune.specs.Pruned.{deepest, above, authority-left};
+use record::N;
+use record::count_at;
+use record::issuers_at;
+use record::subjects_at;
+use rows::ANY;
+use rows::INHERITED;
+use rows::keep;
+use rows::mark;
+use rows::parents;
+use rows::size;
 use rules::DEPTHS;
-use rules::Path;
-use sets::Set;
 
-// The depth counts and the authority set.
-pub struct Pruned {
-    pub counts: [u16; DEPTHS],
-    pub authority: Set,
+fn wide(k: u16) -> usize
+    ensures { λ r. ⌜ r ≡ k ⌝ }
+{
+    k as usize
 }
 
-// Whether the node `q` has a child in the depth below.
-fn has_child(issuers: &[u16], to: &[u16], inherited: &[u16], any_child: bool, q: u16) -> bool
-    requires { ⌜ Ascends (now issuers) ⌝ }
-    requires { ⌜ Ascends (now to) ⌝ }
-    requires { ⌜ Ascends (now inherited) ⌝ }
-    ensures { λ r. ⌜ r ≡ child-by (now (issuers .entry)) (now (to .entry)) (now (inherited .entry)) «any_child» q ⌝ }
+// 1 where a depth has a node: the root stands where depth 1 has one.
+fn root(nodes: u16) -> u16
+    ensures { λ r. ⌜ r ≡ pick (eqb nodes 0) 0 1 ⌝ }
 {
-    if any_child {
-        if q == ANY {
-            return true;
-        }
+    if nodes == 0 { 0 } else { 1 }
+}
+
+// From the last row up: childless nodes go, and `counts` gets what is left. `marks` gets the authority set; `spare` is for the parents.
+pub fn prune(
+    rec: &[u16],
+    starts: &[u16],
+    names: &[u16],
+    spare: &mut [u8],
+    store: &mut [u8],
+    marks: &mut [u8],
+    counts: &mut [u16; DEPTHS],
+)
+    requires { ⌜ Numbered (now rec) (now starts) (now names) ⌝ }
+    requires { ⌜ length (now names) < 65536 ⌝ }
+    requires { ⌜ length (now spare) ≡ length (now names) ⌝ }
+    requires { ⌜ at (now rec) 0 * length (now names) ≤ length (now store) ⌝ }
+    requires { ⌜ Small (now store) ⌝ }
+    requires { ⌜ length (now marks) ≡ length (now names) ⌝ }
+    requires { ⌜ Clear (now marks) ⌝ }
+    requires { ⌜ now counts ≡ replicate Limits.depths 0 ⌝ }
+    ensures { λ r. ⌜ now (counts .exit) ≡ placed Limits.depths (counts-of (deepest (now (rec .entry)) (now (names .entry)) (now (store .entry)) ∷ above (now (rec .entry)) (now (names .entry)) (now (store .entry))) []) ⌝ }
+    ensures { λ r. ⌜ inherited-of (now (names .entry)) (now (marks .exit)) ≡ authority-left (now (rec .entry)) (now (names .entry)) (now (store .entry)) ⌝ }
+{
+    let u = names.len();
+    let n = count_at(rec, 0, N);
+    let mut i = n - 1;
+    let mut below = i * u;
+    let mut end = below + u;
+    if store[below] == INHERITED {
+        marks[ANY] = 1;
     }
-    if sets::contains(issuers, q) {
-        sets::contains(to, q)
-    } else {
-        sets::contains(inherited, q)
-    }
-}
-
-// The nodes that have a child.
-fn kept(nodes: &[u16], issuers: &[u16], to: &[u16], inherited: &[u16], any_child: bool) -> Set
-    requires { ⌜ length (now nodes) ≤ Limits.table ⌝ }
-    requires { ⌜ Ascends (now issuers) ⌝ }
-    requires { ⌜ Ascends (now to) ⌝ }
-    requires { ⌜ Ascends (now inherited) ⌝ }
-    ensures { λ r. ⌜ r ≡ stored (select (child-by (now (issuers .entry)) (now (to .entry)) (now (inherited .entry)) «any_child») (now (nodes .entry))) ⌝ }
-{
-    let mut items = [0u16; rules::TABLE];
-    let mut n = 0;
-    let mut i = 0;
-    while i < nodes.len() {
-        let q = nodes[i];
-        if has_child(issuers, to, inherited, any_child, q) {
-            items[n] = q;
-            n += 1;
-        }
-        i += 1;
-    }
-    Set { len: n, items }
-}
-
-// The depth of certificate `c` without its childless nodes.
-fn kept_level(c: Certificate, below: Level, level: Level) -> Level
-    requires { ⌜ c .«mapping_count» ≤ Limits.listed ⌝ }
-    requires { ⌜ Sound below ⌝ }
-    requires { ⌜ Sound level ⌝ }
-    ensures { λ r. ⌜ r ≡ stored-level (graph.kept (certificate-of c) (level-of below) (level-of level)) ⌝ }
-{
-    let n = c.mapping_count;
-    let issuers = c.issuers;
-    let subjects = c.subjects;
-    let below_len = below.inherited.len;
-    let expected = members(&below.inherited.items, below_len);
-    let any_child = below.under_any.len != 0;
-    let set = sets::of_list(&issuers[..n]);
-    let set_len = set.len;
-    let ds = members(&set.items, set_len);
-    let mapped = sets::picked(&subjects[..n], &issuers[..n], expected);
-    let mapped_len = mapped.len;
-    let to = members(&mapped.items, mapped_len);
-    let a = level.inherited.len;
-    let inherited = kept(
-        members(&level.inherited.items, a),
-        ds,
-        to,
-        expected,
-        any_child,
-    );
-    let b = level.under_any.len;
-    let under_any = kept(
-        members(&level.under_any.items, b),
-        ds,
-        to,
-        expected,
-        any_child,
-    );
-    Level {
-        inherited,
-        under_any,
-    }
-}
-
-// The policies under anyPolicy at the last depth, and anyPolicy if it stands there.
-fn deepest(last: Level) -> Set
-    requires { ⌜ Deepest last ⌝ }
-    ensures { λ r. ⌜ r ≡ stored (ascending (set-of (last .«under_any») ++ standing (set-of (last .inherited)))) ⌝ }
-{
-    let inherited_len = last.inherited.len;
-    let found = sets::contains(members(&last.inherited.items, inherited_len), ANY);
-    let under_any = last.under_any;
-    if !found {
-        return under_any;
-    }
-    let n = under_any.len;
-    let one = [ANY];
-    sets::union(members(&under_any.items, n), &one)
-}
-
-// How many nodes a depth has.
-fn size(inherited: usize, under_any: usize) -> u16
-    requires { ⌜ inherited ≤ Limits.table ⌝ }
-    requires { ⌜ «under_any» ≤ Limits.table ⌝ }
-    ensures { λ r. ⌜ r ≡ inherited + «under_any» ⌝ }
-{
-    (inherited + under_any) as u16
-}
-
-// The root stands where depth 1 has a node.
-fn root(inherited: usize, under_any: usize) -> u16
-    ensures { λ r. ⌜ r ≡ pick (eqb inherited 0 && eqb «under_any» 0) 0 1 ⌝ }
-{
-    if inherited == 0 {
-        if under_any == 0 {
-            return 0;
-        }
-    }
-    1
-}
-
-// The counts and the authority set, from the last depth up.
-pub fn prune(path: Path, levels: [Level; CERTIFICATES], last: Level) -> Pruned
-    requires { ⌜ 1 ≤ path .«certificate_count» ⌝ }
-    requires { ⌜ path .«certificate_count» ≤ Limits.certificates ⌝ }
-    requires { ⌜ Walked (path .certificates) levels (path .«certificate_count» - 1) ⌝ }
-    requires { ⌜ Deepest last ⌝ }
-    ensures { λ r. ⌜ r .counts ≡ placed Limits.depths (graph.counts-of (left (path .certificates) levels (path .«certificate_count» - 1) (level-of last)) []) ⌝ }
-    ensures { λ r. ⌜ r .authority ≡ stored (authority-left (path .certificates) levels (path .«certificate_count» - 1) (level-of last)) ⌝ }
-    ensures { λ r. ⌜ Held (r .authority) ⌝ }
-{
-    let certificates = path.certificates;
-    let mut counts = [0u16; DEPTHS];
-    let mut authority = deepest(last);
-    let mut below = last;
-    let mut i = path.certificate_count - 1;
+    let mut any_child = mark(&store[below..end], marks);
+    let mut nodes = size(&store[below..end]);
+    counts[n] = nodes;
     while 0 < i {
-        counts[i + 1] = size(below.inherited.len, below.under_any.len);
         i -= 1;
-        let c = certificates[i];
-        let level = levels[i];
-        below = kept_level(c, below, level);
-        let n = authority.len;
-        let m = below.under_any.len;
-        authority = sets::union(
-            members(&authority.items, n),
-            members(&below.under_any.items, m),
+        let at = wide(starts[i]);
+        parents(
+            issuers_at(rec, at),
+            subjects_at(rec, at),
+            &store[below..end],
+            any_child,
+            spare,
         );
+        end = below;
+        below = i * u;
+        keep(spare, &mut store[below..end]);
+        any_child = mark(&store[below..end], marks);
+        nodes = size(&store[below..end]);
+        counts[i + 1] = nodes;
     }
-    counts[1] = size(below.inherited.len, below.under_any.len);
-    counts[0] = root(below.inherited.len, below.under_any.len);
-    Pruned { counts, authority }
+    counts[0] = root(nodes);
 }

@@ -1,45 +1,46 @@
--- The walk before certificate i + 1: what the rest of the walk gives is the judgement of the whole path, and the depths so far are sound.
-use Prim.Native.Nat.{ℕ, zero, suc, _+_, _-_, _*_, _≤_, _<_}
+-- The walk before certificate i + 1: what the rest of the model's walk gives is its judgement of the whole path, and the store is zero from there on.
+use Prim.Native.Nat.{ℕ, suc, pred, _+_, _-_, _*_, _≤_, _<_}
 use native.Mathlib.Omega.{arith}
-use mathlib.Core.Bool.{Bool, true, false, not, _&&_, _||_}
-use mathlib.Core.List.{List, [], _∷_, map}
+use native.Mathlib.Nat.{suc-mul, mul-le-mul-right}
+use mathlib.Core.Bool.{Bool, true, false, _&&_}
+use mathlib.Core.List.{List, [], _∷_}
 use mathlib.Core.Path.{_≡_, refl, sym, ap, ap₂, _∙_, subst, subst⁻¹}
 use lib.Dec.{eqb}
-use lib.ListN.{length, length-map, length-drop, take, drop, getD, set, length-set, List·getD-map}
-use lib.Seq.{drop-cons, getD-take, getD-set-same, getD-set-other, length-take-le}
-use mathlib.Core.Logic.{_⊎_, inl, inr, ⊎-elim}
+use lib.ListN.{length, length-map, length-drop, drop, set, length-set}
+use lib.Seq.{getD-set-same, getD-set-other}
 use borrow.Author.Tests.{eq-eqb, ne-eqb, eqb-true, eqb-false}
-use Rattle.laws.proofs.Sets.{by-cases}
-use Rattle.rules.specs.declared.Certificate.{Certificate as StoredCertificate}
-use Rattle.rules.specs.declared.Path.{Path as StoredPath}
-use Rattle.rules.specs.Limits as Limits
+use borrow.Rule.Slice.PartMut.{putMid}
 use Rattle.rules.specs.Numbers as Numbers
-use Rattle.rules.specs.Layout.{certificate-of, path-of}
 use Rattle.rules.specs.Sets.{pick, _∈_, empty, ascending}
 use Rattle.rules.specs.Paths.{Path, Certificate, any}
-use Rattle.rules.specs.Counters.{Counters, at-start, after, at-end}
+use Rattle.rules.specs.Counters.{Counters, at-start, after, zeroed, at-end}
 use Rattle.rules.specs.Answers.{Answer, failed, maps-any}
 use Rattle.rules.specs.Graph.{test-9}
-use Rattle.levels.proofs.Levels.{Level, Step, none, new-level, mapped, expected, conclude, run, judged, size}
-use Rattle.sets.specs.declared.Set.{Set}
-use Rattle.sets.specs.Set.{Ascends, stored}
+use Rattle.laws.proofs.Sets.{by-cases, pick-yes, pick-no, sorted-ascending, sorted-same, mem-ascending, or-false}
+use Rattle.levels.proofs.Levels.{Level, Step, none, new-level, mapped, expected, conclude, run, judged}
 use Rattle.counters.specs.declared.Counters.{Counters as StoredCounters}
 use Rattle.counters.specs.Counted.{counted}
-use Rattle.depths.specs.declared.Level.{Level as StoredLevel}
-use Rattle.depths.specs.Depth.{Held, Sound, set-of, level-of, stored-level, steps-of, no-certificate, no-level}
-use Rattle.depths.proofs.Laws.{empty-len, held-stored, held-length, set-of-stored, stored-length, mappings-most, policies-most, pick-yes, pick-no}
-use Rattle.depths.proofs.Sizes.{Ordered, size-is, level-of-stored, sound-stored, sound-ordered, level-inherited, level-under, level-none, level-size, stored-under, stored-inherited, ordered-new, ordered-mapped, ascends-expected, size-new, under-new-most, under-new-any, under-mapped, size-mapped, length-expected}
-use Rattle.prune.specs.Children.{standing, Deepest, Walked}
-use Rattle.prune.proofs.Laws.{standing-yes, standing-no}
-use Rattle.walk.specs.declared.Next.{Next}
+use Rattle.names.specs.Names.{place}
+use Rattle.names.specs.Places.{at}
+use Rattle.record.specs.Record.{issued, subjected}
+use Rattle.record.specs.Unpacked.{unpacked}
+use Rattle.places.specs.Mapped.{certificate-map, path-map, path-named}
+use Rattle.places.specs.Numbered.{certificate-at, HeldAt, Numbered}
+use Rattle.places.proofs.Named.{certificates-many, certificates-from, certificate-is, mappings-are, policies-are}
+use Rattle.rows.specs.Row as spec
+use Rattle.rows.specs.Read.{Small, level-of, inherited-of}
+use Rattle.rows.specs.Store.{row, steps-of, Clear}
+use Rattle.rows.proofs.Places.{is-any, some-name}
+use Rattle.rows.proofs.Model.{mem-inherited, any-is, rising, new-row-is}
+use Rattle.rows.proofs.Mappings.{map-row-is, expect-is}
+use Rattle.rows.proofs.Counts.{small-new, small-map}
+use Rattle.rows.proofs.Lengths.{length-new-row, length-map-row, length-expect}
+use Rattle.rows.proofs.Store.{length-row, small-row, small-put, clear-row, length-put, at-after-put, steps-put, row-put, steps-before-put}
 use Rattle.walk.specs.declared.Reached.{Reached}
-use Rattle.walk.specs.Walking.{next-of, fault-of, Legal, concluded-of, answer-of}
+use Rattle.walk.specs.Walking.{allowed, entered, fault-of, concluded-of, answer-of}
+use Rattle.walk.proofs.Tests.{allowed-same, fault-same}
 
--- the most that the depth after i certificates expects
-abbrev pub most : ℕ → ℕ
-most i = suc ((Limits.listed + Limits.listed - 1) * i)
-
--- the rules' steps
+-- the model's steps
 
 fault-pick : (s t : Bool) (j : ℕ) (X : Answer)
     → pick s (failed Numbers.no-graph j) (pick t (failed Numbers.any-mapped j) X)
@@ -59,231 +60,252 @@ module _ (P : Path) (j : ℕ) (c : Certificate) (cs : List Certificate) (k : Cou
 
   abbrev pub turn : Bool → Answer
   turn last =
-      let f = fault-of (k .explicit) (none (new-level last k c E a)) c in
+      let f = pick (eqb (k .explicit) 0 && none (new-level last k c E a)) Numbers.no-graph (pick (maps-any c) Numbers.any-mapped 0) in
       pick (eqb f 0) (passed last) (failed f j)
 
   run-cons : run P j (c ∷ cs) k E a steps ≡ turn (empty cs)
-  unfolding run fault-of test-9
+  unfolding run test-9
   run-cons = fault-pick (eqb (k .explicit) 0 && none (new-level (empty cs) k c E a)) (maps-any c) j _
 
 pub conclude-explicit : (P : Path) (k : Counters) (L : Level) (steps : List Step) → conclude P k L steps ≡ conclude P (record { explicit = k .explicit; mapping = 0; any = 0 }) L steps
 unfolding conclude
 conclude-explicit P k L steps = refl
 
--- the certificates of a path
+pub record Walking (rec names wanted store : List ℕ) (any-above : Bool) (k : StoredCounters) (i : ℕ) : Type 0 where
+  pub some : i < at rec 0
+  pub wide : length wanted ≡ length names
+  pub room : at rec 0 * length names ≤ length store
+  pub small : Small store
+  pub fresh : (j : ℕ) → i * length names ≤ j → at store j ≡ 0
+  pub rest : judged (path-named names rec) ≡ run (path-named names rec) (suc i) (drop i (path-named names rec .certificates)) (counted k) (inherited-of names wanted) any-above (steps-of names (path-named names rec .certificates) store i)
 
-module _ (p : StoredPath) (fits : p .«certificate_count» ≤ length (p .certificates)) where
-  abbrev n : ℕ
-  n = p .«certificate_count»
+pub walking-same : {rec names wanted wanted' store store' : List ℕ} {a a' : Bool} {k : StoredCounters} {i i' : ℕ} → wanted ≡ wanted' → store ≡ store' → a ≡ a' → i ≡ i'
+    → Walking rec names wanted' store' a' k i' → Walking rec names wanted store a k i
+walking-same {rec} {names} {wanted} {wanted'} {store} {store'} {a} {a'} {k} {i} {i'} e f g h w =
+    subst⁻¹ (λ x. Walking rec names x store a k i) e (subst⁻¹ (λ x. Walking rec names wanted' x a k i) f (subst⁻¹ (λ x. Walking rec names wanted' store' x k i) g (subst⁻¹ (λ x. Walking rec names wanted' store' a' k x) h w)))
 
-  used : length (path-of p .certificates) ≡ n
-  unfolding path-of
-  used = length-map (take n (p .certificates)) certificate-of ∙ length-take-le n (p .certificates) fits
+empty-length : (cs : List Certificate) → empty cs ≡ eqb (length cs) 0
+unfolding empty
+empty-length [] = refl
+empty-length (c ∷ cs) = sym (ne-eqb (suc (length cs)) 0 (λ e. omega arith))
 
-  pub certificate-at : (i : ℕ) → i < p .«certificate_count» → drop i (path-of p .certificates) ≡ certificate-of (getD (p .certificates) i no-certificate) ∷ drop (suc i) (path-of p .certificates)
-  unfolding path-of
-  certificate-at i h =
-      drop-cons (map certificate-of (take n (p .certificates))) i (certificate-of no-certificate) (omega (arith, used))
-      ∙ ap (λ c. c ∷ drop (suc i) (map certificate-of (take n (p .certificates)))) (List·getD-map certificate-of (take n (p .certificates)) i no-certificate ∙ ap certificate-of (getD-take n (p .certificates) i no-certificate h))
-
-  pub more-after : (i : ℕ) → suc i < p .«certificate_count» → empty (drop (suc i) (path-of p .certificates)) ≡ false
-  more-after i h = sym (empty-len (drop (suc i) (path-of p .certificates))) ∙ ne-eqb (length (drop (suc i) (path-of p .certificates))) 0 (λ e. omega (arith, length-drop (suc i) (path-of p .certificates), used))
-
-  pub none-after : (i : ℕ) → p .«certificate_count» ≤ suc i → empty (drop (suc i) (path-of p .certificates)) ≡ true
-  none-after i h = sym (empty-len (drop (suc i) (path-of p .certificates))) ∙ eq-eqb (length (drop (suc i) (path-of p .certificates))) 0 (omega (arith, length-drop (suc i) (path-of p .certificates), used))
-
--- the depths so far
-
-pub steps-set : (cs : List StoredCertificate) (ls : List StoredLevel) (i j : ℕ) (m : StoredLevel) → j ≤ i → steps-of cs (set ls i m) j ≡ steps-of cs ls j
-unfolding steps-of
-steps-set cs ls i zero m h = refl
-steps-set cs ls i (suc j) m h =
-    ap₂ (λ l ss. record { certificate = certificate-of (getD cs j no-certificate); level = level-of l } ∷ ss) (getD-set-other ls i j m no-level (λ e. omega arith)) (steps-set cs ls i j m (omega arith))
-
-pub steps-more : (cs : List StoredCertificate) (ls : List StoredLevel) (i : ℕ) (m : StoredLevel) → i < length ls
-    → steps-of cs (set ls i m) (suc i) ≡ record { certificate = certificate-of (getD cs i no-certificate); level = level-of m } ∷ steps-of cs ls i
-unfolding steps-of
-steps-more cs ls i m h =
-    ap₂ (λ l ss. record { certificate = certificate-of (getD cs i no-certificate); level = level-of l } ∷ ss) (getD-set-same ls i m no-level h) (steps-set cs ls i i m (omega arith))
-
-last-or-before : (j i : ℕ) → j < suc i → (j ≡ i) ⊎ (j < i)
-last-or-before j i h = by-cases (eqb j i) (λ e. inl (eqb-true j i e)) (λ e. inr (let ne : j ≡ i → ⊥ = eqb-false j i e in omega arith))
-
--- a fact of the first i, and of i, is one of the first i + 1
-below-more : (Q : StoredLevel → Type 0) (ls : List StoredLevel) (i : ℕ) (m : StoredLevel) → i < length ls
-    → ((j : ℕ) → j < i → Q (getD ls j no-level)) → Q m → (j : ℕ) → j < suc i → Q (getD (set ls i m) j no-level)
-below-more Q ls i m h q r j k =
-    ⊎-elim
-    (λ (e : j ≡ i). subst⁻¹ Q (ap (λ x. getD (set ls i m) x no-level) e ∙ getD-set-same ls i m no-level h) r)
-    (λ (e : j < i). subst⁻¹ Q (getD-set-other ls i j m no-level (λ x. omega arith)) (q j e))
-    (last-or-before j i k)
-
-pub record Walking (p : StoredPath) (levels : List StoredLevel) (wanted : Set) (any-above : Bool) (k : StoredCounters) (i : ℕ) : Type 0 where
-  pub some : i < p .«certificate_count»
-  pub held : Held wanted
-  pub few : wanted .len ≤ most i
-  pub room : length levels ≡ Limits.certificates
-  pub walked : Walked (p .certificates) levels i
-  pub rest : judged (path-of p) ≡ run (path-of p) (suc i) (drop i (path-of p .certificates)) (counted k) (set-of wanted) any-above (steps-of (p .certificates) levels i)
+-- the start
 
 any-alone : ascending (any ∷ []) ≡ any ∷ []
 unfolding ascending
 any-alone = refl
 
-module _ (p : StoredPath) (legal : Legal p) (fits : p .«certificate_count» ≤ length (p .certificates)) where
-  pub walk-start : (levels : List StoredLevel) (wanted : Set) (k : StoredCounters) → length levels ≡ Limits.certificates → wanted ≡ stored (ascending (any ∷ [])) → counted k ≡ at-start (path-of p)
-      → Walking p levels wanted true k 0
+mem-alone : (p : ℕ) → p ∈ (any ∷ []) ≡ eqb p any
+unfolding _∈_
+mem-alone p = or-false (eqb p any)
+
+one-first : (e : List ℕ) → 0 < length e → Clear e → (k : ℕ) → eqb (at (set e 0 1) k) 1 ≡ eqb k 0
+one-first e l z k =
+    by-cases (eqb k 0)
+    (λ h. ap (λ j. eqb (at (set e 0 1) j) 1) (eqb-true k 0 h) ∙ ap (λ x. eqb x 1) (getD-set-same e 0 1 0 l) ∙ sym h)
+    (λ h. ap (λ x. eqb x 1) (getD-set-other e 0 k 1 0 (eqb-false k 0 h) ∙ z k) ∙ sym h)
+
+start-named : (names rec : List ℕ) → at-start (unpacked rec) ≡ at-start (path-named names rec)
+unfolding at-start path-named path-map
+start-named names rec =
+    ap (λ n. record { explicit = pick (unpacked rec .explicit-policy) 0 (suc n); mapping = pick (unpacked rec .mapping-inhibit) 0 (suc n); any = pick (unpacked rec .any-inhibit) 0 (suc n) }) (sym (length-map (unpacked rec .certificates) (certificate-map (at names))))
+
+module _ {rec starts names : List ℕ} (N : Numbered rec starts names) where
+  expects-any : (e : List ℕ) → length e ≡ length names → Clear e → inherited-of names (set e 0 1) ≡ any ∷ []
+  expects-any e l z =
+      sorted-same (inherited-of names (set e 0 1)) (ascending (any ∷ [])) (rising names (N .named) (set e 0 1) .of-inherited) (sorted-ascending (any ∷ [])) (λ p.
+      mem-inherited names (N .named) p (set e 0 1) (length-set e 0 1 ∙ l) ∙ one-first e (omega (arith, some-name names (N .named))) z (place p names) ∙ sym (mem-ascending p (any ∷ []) ∙ mem-alone p ∙ is-any names (N .named) p))
+      ∙ any-alone
+
+  pub walk-start : (e store : List ℕ) (k : StoredCounters) → length e ≡ length names → Clear e → at rec 0 * length names ≤ length store → Clear store → counted k ≡ at-start (unpacked rec)
+      → Walking rec names (set e 0 1) store true k 0
   unfolding judged steps-of
-  walk-start levels wanted k h e s =
-      let one : length (ascending (any ∷ [])) ≡ 1 = ap length any-alone in
+  walk-start e store k l z room c s =
       record {
-        some = legal .some;
-        held = held-stored (ascending (any ∷ [])) e (omega arith) (ap ascending any-alone);
-        few = omega (arith, stored-length (ascending (any ∷ [])) e);
-        room = h;
-        walked = record { mappings = λ j b. absurd (omega arith); sound = λ j b. absurd (omega arith); few = λ j b. absurd (omega arith) };
-        rest = ap₂ (λ x E. run (path-of p) 1 (path-of p .certificates) x E true []) (sym s) (sym (set-of-stored (ascending (any ∷ [])) e ∙ any-alone));
+        some = N .some;
+        wide = length-set e 0 1 ∙ l;
+        room = room;
+        small = λ j. omega (arith, c j);
+        fresh = λ j h. c j;
+        rest = ap₂ (λ x E. run (path-named names rec) 1 (path-named names rec .certificates) x E true []) (sym (s ∙ start-named names rec)) (sym (expects-any e l z));
       }
 
-  module _ {levels : List StoredLevel} {wanted : Set} {a : Bool} {k : StoredCounters} {i : ℕ} (g : Walking p levels wanted a k i) where
-    abbrev pub stored-at : StoredCertificate
-    stored-at = getD (p .certificates) i no-certificate
+  module _ {wanted store : List ℕ} {a : Bool} {k : StoredCounters} {i : ℕ} (g : Walking rec names wanted store a k i) where
+    abbrev pub P : Path
+    P = path-named names rec
 
-    abbrev pub at : Certificate
-    at = certificate-of stored-at
+    -- the certificate of places, and the one that it stands for
+    abbrev pub here : Certificate
+    here = certificate-at rec (at starts i)
 
-    abbrev pub new : Bool → Level
-    new last = new-level last (counted k) at (set-of wanted) a
+    abbrev pub named : Certificate
+    named = certificate-map (at names) here
 
-    few-policies : length (at .policies) ≤ Limits.listed
-    few-policies = omega (arith, policies-most stored-at, legal .policies i (g .some))
+    abbrev held : HeldAt rec (length names) (at starts i)
+    held = N .held i (g .some)
 
-    few-mappings : length (at .mappings) ≤ Limits.listed
-    few-mappings = omega (arith, mappings-most stored-at, legal .mappings i (g .some))
+    abbrev E : List ℕ
+    E = inherited-of names wanted
 
-    ordered : (last : Bool) → Ordered (new last)
-    ordered last = ordered-new last (counted k) at (set-of wanted) a (g .held .order)
+    -- its row after its policies, the last certificate's or not
+    abbrev pub new : Bool → List ℕ
+    new last = entered last (k .any) a here wanted (row store (length names) i)
 
-    small : (last : Bool) → suc (size (new last)) ≤ most i + Limits.listed
-    small last = size-new last (counted k) at (set-of wanted) a Limits.listed few-policies (most i) (omega arith) (omega (arith, held-length (g .held), g .few))
+    -- where its row ends
+    pub row-room : i * length names + length names ≤ length store
+    row-room = omega (arith, suc-mul i (length names), mul-le-mul-right {m = suc i} {n = at rec 0} (length names) (g .some), g .room)
+
+    pub row-length : length (row store (length names) i) ≡ length names
+    row-length = length-row store (length names) i row-room
+
+    pub new-length : (last : Bool) → length (new last) ≡ length names
+    unfolding entered
+    new-length last = length-new-row (allowed last (k .any) (here .self-issued) (here .policies)) a (here .policies) wanted (row store (length names) i) ∙ row-length
+
+    new-small : (last : Bool) → Small (new last)
+    unfolding entered
+    new-small last = small-new (allowed last (k .any) (here .self-issued) (here .policies)) a (here .policies) wanted (row store (length names) i) (small-row store (length names) i (g .small))
+
+    new-is : (last : Bool) → level-of names (new last) ≡ new-level last (counted k) named E a
+    unfolding entered
+    new-is last =
+        ap (λ b. level-of names (spec.new-row b a (here .policies) wanted (row store (length names) i))) (allowed-same names (N .named) here (held .policies) (held .pairs) last (counted k))
+        ∙ new-row-is names (N .named) last (counted k) named a (here .policies) wanted (row store (length names) i) (policies-are names here) (held .policies) (g .wide) row-length (clear-row store (length names) i (g .fresh))
 
     abbrev later : List Certificate
-    later = drop (suc i) (path-of p .certificates)
+    later = drop (suc i) (P .certificates)
 
     abbrev so-far : List Step
-    so-far = steps-of (p .certificates) levels i
+    so-far = steps-of names (P .certificates) store i
 
     abbrev passing : Bool → Answer
-    passing = passed (path-of p) (suc i) at later (counted k) (set-of wanted) a so-far
+    passing = passed P (suc i) named later (counted k) E a so-far
 
-    turn-is : (last : Bool) → empty later ≡ last → judged (path-of p) ≡ turn (path-of p) (suc i) at later (counted k) (set-of wanted) a so-far last
-    turn-is last e =
+    -- the fault that the code finds
+    abbrev pub failing : Bool → ℕ
+    failing last = fault-of (k .explicit) (new last) (issued here) (subjected here)
+
+    failing-is : (last : Bool) → failing last ≡ pick (eqb (k .explicit) 0 && none (new-level last (counted k) named E a)) Numbers.no-graph (pick (maps-any named) Numbers.any-mapped 0)
+    failing-is last =
+        fault-same names (N .named) here (held .policies) (held .pairs) (k .explicit) (new last) (new-length last) (new-small last)
+        ∙ ap (λ L. pick (eqb (k .explicit) 0 && none L) Numbers.no-graph (pick (maps-any named) Numbers.any-mapped 0)) (new-is last)
+
+    turn-by : (last : Bool) {f : ℕ} → empty later ≡ last → f ≡ failing last → judged P ≡ pick (eqb f 0) (passing last) (failed f (suc i))
+    turn-by last {f} e h =
         g .rest
-        ∙ ap (λ cs. run (path-of p) (suc i) cs (counted k) (set-of wanted) a so-far) (certificate-at p fits i (g .some))
-        ∙ run-cons (path-of p) (suc i) at later (counted k) (set-of wanted) a so-far
-        ∙ ap (turn (path-of p) (suc i) at later (counted k) (set-of wanted) a so-far) e
+        ∙ ap (λ cs. run P (suc i) cs (counted k) E a so-far) (certificates-from N i (g .some))
+        ∙ run-cons P (suc i) named later (counted k) E a so-far
+        ∙ ap (turn P (suc i) named later (counted k) E a so-far) e
+        ∙ ap (λ v. pick (eqb v 0) (passing last) (failed v (suc i))) (sym (h ∙ failing-is last))
 
-    -- the depth of certificate i + 1
-    module _ (last : Bool) {level : StoredLevel} (made : level ≡ stored-level (new last)) where
-      pub sound-new : Sound level
-      sound-new = sound-stored (new last) made (ordered last) (omega (arith, size-is (new last), small last, g .some, legal .most)) (omega (arith, size-is (new last), small last, g .some, legal .most))
+    -- what the code has at hand: r for the row, j for the certificate's place
+    module _ {r : List ℕ} {j : ℕ} (same-row : r ≡ row store (length names) i) (same-place : j ≡ at starts i) where
+      pub new-at : (last : Bool) → entered last (k .any) a (certificate-at rec j) wanted r ≡ new last
+      new-at last = ap₂ (λ j r. entered last (k .any) a (certificate-at rec j) wanted r) same-place same-row
 
-      pub few-new : suc (level .inherited .len + level .«under_any» .len) ≤ most i + Limits.listed
-      few-new = omega (arith, size-is (new last), small last, stored-inherited (new last) made, stored-under (new last) made)
+      pub failing-at : (last : Bool) → fault-of (k .explicit) (entered last (k .any) a (certificate-at rec j) wanted r) (issued (certificate-at rec j)) (subjected (certificate-at rec j)) ≡ failing last
+      failing-at last = ap₂ (λ j x. fault-of (k .explicit) x (issued (certificate-at rec j)) (subjected (certificate-at rec j))) same-place (new-at last)
 
-      abbrev pub failing : ℕ
-      failing = fault-of (k .explicit) (eqb (level .inherited .len) 0 && eqb (level .«under_any» .len) 0) at
+      pub mapped-at : spec.map-row (k .mapping) (issued (certificate-at rec j)) (entered false (k .any) a (certificate-at rec j) wanted r) ≡ spec.map-row (k .mapping) (issued here) (new false)
+      mapped-at = ap₂ (λ j x. spec.map-row (k .mapping) (issued (certificate-at rec j)) x) same-place (new-at false)
 
-      failing-is : failing ≡ fault-of (k .explicit) (none (new last)) at
-      failing-is = ap (λ b. fault-of (k .explicit) b at) (level-none sound-new ∙ ap none (level-of-stored (new last) made))
+      pub expect-at : (x : List ℕ) → spec.expect (issued (certificate-at rec j)) (subjected (certificate-at rec j)) x wanted ≡ spec.expect (issued here) (subjected here) x wanted
+      expect-at x = ap (λ j. spec.expect (issued (certificate-at rec j)) (subjected (certificate-at rec j)) x wanted) same-place
 
-      turn-by : {f : ℕ} → empty later ≡ last → f ≡ failing → judged (path-of p) ≡ pick (eqb f 0) (passing last) (failed f (suc i))
-      turn-by {f} e h = turn-is last e ∙ ap (λ v. pick (eqb v 0) (passing last) (failed v (suc i))) (sym (h ∙ failing-is))
+      pub after-at : after (certificate-at rec j) (counted k) ≡ after named (counted k)
+      unfolding after certificate-map
+      after-at = ap (λ j. after (certificate-at rec j) (counted k)) same-place
+
+      pub end-at : zeroed (certificate-at rec j .require-explicit) (pred (k .explicit)) ≡ at-end named (counted k) .explicit
+      unfolding at-end certificate-map
+      end-at = ap (λ j. zeroed (certificate-at rec j .require-explicit) (pred (k .explicit))) same-place
+
+      pub held-at : HeldAt rec (length r) j
+      held-at = subst⁻¹ (λ n. HeldAt rec n j) (ap length same-row ∙ row-length) (subst⁻¹ (HeldAt rec (length names)) same-place (N .held i (g .some)))
 
     -- a certificate before the last
-    module _ {level : StoredLevel} (made : level ≡ stored-level (new false)) (more : suc i < p .«certificate_count») {f : ℕ} (h : f ≡ failing false made) where
-      pub walk-fails : (f ≡ 0 → ⊥) → judged (path-of p) ≡ failed f (suc i)
-      walk-fails ne = turn-by false made (more-after p fits i more) h ∙ pick-no (passing false) (failed f (suc i)) (ne-eqb f 0 ne)
+    module _ (more : suc i < at rec 0) {f : ℕ} (h : f ≡ failing false) where
+      more-after : empty later ≡ false
+      more-after = empty-length later ∙ ne-eqb (length later) 0 (λ e. omega (arith, length-drop (suc i) (P .certificates), certificates-many names rec))
 
-      abbrev pub mapped-new : Level
-      mapped-new = mapped (k .mapping) at (new false)
+      pub walk-fails : (f ≡ 0 → ⊥) → judged P ≡ failed f (suc i)
+      walk-fails ne = turn-by false more-after h ∙ pick-no (passing false) (failed f (suc i)) (ne-eqb f 0 ne)
 
-      walk-on : f ≡ 0 → judged (path-of p) ≡ run (path-of p) (suc (suc i)) later (after at (counted k)) (expected at mapped-new) (any ∈ mapped-new .inherited) (record { certificate = at; level = mapped-new } ∷ so-far)
+      -- its row after its mappings, and what its nodes then expect
+      abbrev pub mapped-row : List ℕ
+      mapped-row = spec.map-row (k .mapping) (issued here) (new false)
+
+      pub mapped-length : length mapped-row ≡ length names
+      mapped-length = length-map-row (k .mapping) (issued here) (new false) ∙ new-length false
+
+      mapped-small : Small mapped-row
+      mapped-small = small-map (k .mapping) (issued here) (new false) (new-small false)
+
+      mapped-is : level-of names mapped-row ≡ mapped (k .mapping) named (new-level false (counted k) named E a)
+      mapped-is =
+          map-row-is names (N .named) named (issued here) (subjected here) (mappings-are names here) (held .pairs) (new false) (new-length false) (new-small false) (k .mapping)
+          ∙ ap (mapped (k .mapping) named) (new-is false)
+
+      abbrev pub next-wanted : List ℕ
+      next-wanted = spec.expect (issued here) (subjected here) mapped-row wanted
+
+      expected-is : inherited-of names next-wanted ≡ expected named (mapped (k .mapping) named (new-level false (counted k) named E a))
+      expected-is =
+          expect-is names (N .named) named (issued here) (subjected here) (mappings-are names here) (held .pairs) mapped-row mapped-length mapped-small wanted (g .wide)
+          ∙ ap (expected named) mapped-is
+
+      any-stands : any ∈ mapped (k .mapping) named (new-level false (counted k) named E a) .inherited ≡ eqb (at mapped-row 0) 1
+      any-stands = ap (λ L. any ∈ L .inherited) (sym mapped-is) ∙ any-is names (N .named) mapped-row mapped-length
+
+      abbrev pub next-store : List ℕ
+      next-store = putMid (i * length names) (length names) store mapped-row
+
+      walk-on : f ≡ 0 → judged P ≡ passing false
+      walk-on e = turn-by false more-after h ∙ pick-yes (passing false) (failed f (suc i)) (eq-eqb f 0 e)
+
+      pub walk-next : {k' : StoredCounters} → f ≡ 0 → counted k' ≡ after named (counted k) → Walking rec names next-wanted next-store (eqb (at mapped-row 0) 1) k' (suc i)
       unfolding pick
-      walk-on e = turn-by false made (more-after p fits i more) h ∙ pick-yes (passing false) (failed f (suc i)) (eq-eqb f 0 e)
-
-      module _ {next : StoredLevel} {wanted' : Set} {k' : StoredCounters} (e : f ≡ 0) (n : next ≡ stored-level mapped-new) (w : wanted' ≡ stored (expected at mapped-new)) (c : counted k' ≡ after at (counted k)) where
-        small-mapped : size mapped-new ≤ Limits.table
-        small-mapped = omega (arith, size-mapped (k .mapping) at (new false), small false, few-mappings, more, legal .most)
-
-        sound-next : Sound next
-        sound-next =
-            sound-stored mapped-new n (ordered-mapped (k .mapping) at (new false) (ordered false)) (omega (arith, size-is mapped-new, small-mapped)) (omega (arith, size-is mapped-new, small-mapped))
-
-        few-next : next .«under_any» .len ≤ Limits.listed + Limits.listed
-        few-next =
-            omega (arith, stored-under mapped-new n, under-mapped (k .mapping) at (new false), under-new-most false (counted k) at (set-of wanted) a Limits.listed few-policies, few-mappings)
-
-        short : length (expected at mapped-new) ≤ most (suc i)
-        short = omega (arith, length-expected (k .mapping) at (new false), small false, few-mappings)
-
-        pub walk-next : Walking p (set levels i next) wanted' (any ∈ mapped-new .inherited) k' (suc i)
-        walk-next =
-            let inside : i < length levels = omega (arith, g .room, legal .most, g .some) in
-            let steps = steps-more (p .certificates) levels i next inside ∙ ap (λ l. record { certificate = at; level = l } ∷ so-far) (level-of-stored mapped-new n) in
-            record {
-              some = more;
-              held = held-stored (expected at mapped-new) w (omega (arith, short, legal .most, more)) (ascends-expected at mapped-new);
-              few = omega (arith, stored-length (expected at mapped-new) w, short);
-              room = length-set levels i next ∙ g .room;
-              walked =
-                  record {
-                    mappings = λ j b. legal .mappings j (omega (arith, more));
-                    sound = below-more Sound levels i next inside (g .walked .sound) sound-next;
-                    few = below-more (λ l. l .«under_any» .len ≤ Limits.listed + Limits.listed) levels i next inside (g .walked .few) few-next;
-                  };
-              rest =
-                  walk-on e
-                  ∙ λ d. run (path-of p) (suc (suc i)) later (sym c d) (sym (set-of-stored (expected at mapped-new) w) d) (any ∈ mapped-new .inherited) (sym steps d);
-            }
-
-    -- certificate n
-    module _ {level : StoredLevel} (made : level ≡ stored-level (new true)) (end : p .«certificate_count» ≤ suc i) where
-      number : p .«certificate_count» - 1 ≡ i
-      number = omega (arith, g .some)
-
-      pub walk-deepest : Deepest level
-      unfolding standing stored-level
-      walk-deepest =
-          let s = sound-new true made in
-          let inherited : set-of (level .inherited) ≡ new true .inherited = set-of-stored (new true .inherited) (ap (λ l. l .inherited) made) in
-          let same = ap (λ xs. length (standing xs)) inherited in
+      walk-next e c =
           record {
-            sound = s;
-            few =
-                by-cases (any ∈ new true .inherited)
-                (λ h. omega (arith, stored-under (new true) made, same, ap length (standing-yes (new true .inherited) h), under-new-any true (counted k) at (set-of wanted) a Limits.listed few-policies h))
-                (λ h. omega (arith, stored-under (new true) made, same, ap length (standing-no (new true .inherited) h), under-new-most true (counted k) at (set-of wanted) a Limits.listed few-policies));
+            some = more;
+            wide = length-expect (issued here) (subjected here) mapped-row wanted ∙ g .wide;
+            room = omega (arith, g .room, length-put store mapped-row (length names) i row-room mapped-length);
+            small = small-put store mapped-row (i * length names) (length names) (g .small) mapped-small;
+            fresh = λ j b. at-after-put store mapped-row (length names) i row-room mapped-length j b ∙ g .fresh j (omega (arith, suc-mul i (length names)));
+            rest =
+                walk-on e
+                ∙ λ d. run P (suc (suc i)) later (sym c d) (sym expected-is d) (any-stands d) (sym (steps-put names (P .certificates) store mapped-row i row-room mapped-length ∙ ap₂ (λ x L. record { certificate = x; level = L } ∷ so-far) (certificate-is N i (g .some)) mapped-is) d);
           }
 
-      pub walk-walked : Walked (p .certificates) levels (p .«certificate_count» - 1)
-      walk-walked = subst⁻¹ (Walked (p .certificates) levels) number (g .walked)
+    -- certificate n
+    module _ (end : at rec 0 ≤ suc i) where
+      none-after : empty later ≡ true
+      none-after = empty-length later ∙ eq-eqb (length later) 0 (omega (arith, length-drop (suc i) (P .certificates), certificates-many names rec))
 
-      pub walk-ends : {w : Reached} → w .fault ≡ failing true made → w .place ≡ suc i → w .explicit ≡ at-end at (counted k) .explicit → w .last ≡ level → w .levels ≡ levels → judged (path-of p) ≡ answer-of p w
-      unfolding answer-of concluded-of pick
-      walk-ends {w} h q x l ls =
-          turn-by true made (none-after p fits i end) h
-          ∙ λ d. pick (eqb (w .fault) 0) (concluded d) (failed (w .fault) (sym q d))
-        where
-          concluded : passing true ≡ conclude (path-of p) (record { explicit = w .explicit; mapping = 0; any = 0 }) (level-of (w .last)) (steps-of (p .certificates) (w .levels) (p .«certificate_count» - 1))
-          concluded =
-              conclude-explicit (path-of p) (at-end at (counted k)) (new true) so-far
-              ∙ λ d. conclude (path-of p) (record { explicit = sym x d; mapping = 0; any = 0 }) (sym (ap level-of l ∙ level-of-stored (new true) made) d) (steps-of (p .certificates) (sym ls d) (sym number d))
+      number : at rec 0 - 1 ≡ i
+      number = omega (arith, g .some)
 
-pub answer-fails : (p : StoredPath) (w : Reached) → (w .fault ≡ 0 → ⊥) → answer-of p w ≡ failed (w .fault) (w .place)
+      abbrev pub last-store : List ℕ
+      last-store = putMid (i * length names) (length names) store (new true)
+
+      pub last-small : Small last-store
+      last-small = small-put store (new true) (i * length names) (length names) (g .small) (new-small true)
+
+      concluded : (explicit : ℕ) → explicit ≡ at-end named (counted k) .explicit → conclude P (at-end named (counted k)) (new-level true (counted k) named E a) so-far ≡ concluded-of rec names last-store explicit
+      unfolding concluded-of
+      concluded explicit x =
+          conclude-explicit P (at-end named (counted k)) (new-level true (counted k) named E a) so-far
+          ∙ (λ d. conclude P (record { explicit = sym x d; mapping = 0; any = 0 }) (sym (ap (level-of names) (row-put store (new true) (length names) i row-room (new-length true)) ∙ new-is true) d) (sym (steps-before-put names (P .certificates) store (new true) i row-room (new-length true) i (omega arith)) d))
+          ∙ ap (λ j. conclude P (record { explicit = explicit; mapping = 0; any = 0 }) (level-of names (row last-store (length names) j)) (steps-of names (P .certificates) last-store j)) (sym number)
+
+      pub walk-ends : {w : Reached} → w .fault ≡ failing true → w .place ≡ suc i → w .explicit ≡ at-end named (counted k) .explicit → judged P ≡ answer-of rec names last-store w
+      unfolding answer-of pick
+      walk-ends {w} h q x = turn-by true none-after h ∙ λ d. pick (eqb (w .fault) 0) (concluded (w .explicit) x d) (failed (w .fault) (sym q d))
+
+pub answer-fails : (rec names store : List ℕ) (w : Reached) → (w .fault ≡ 0 → ⊥) → answer-of rec names store w ≡ failed (w .fault) (w .place)
 unfolding answer-of
-answer-fails p w ne = pick-no (concluded-of p w) (failed (w .fault) (w .place)) (ne-eqb (w .fault) 0 ne)
+answer-fails rec names store w ne = pick-no (concluded-of rec names store (w .explicit)) (failed (w .fault) (w .place)) (ne-eqb (w .fault) 0 ne)
 
-pub answer-concludes : (p : StoredPath) (w : Reached) → w .fault ≡ 0 → answer-of p w ≡ concluded-of p w
+pub answer-concludes : (rec names store : List ℕ) (w : Reached) → w .fault ≡ 0 → answer-of rec names store w ≡ concluded-of rec names store (w .explicit)
 unfolding answer-of
-answer-concludes p w e = pick-yes (concluded-of p w) (failed (w .fault) (w .place)) (eq-eqb (w .fault) 0 e)
+answer-concludes rec names store w e = pick-yes (concluded-of rec names store (w .explicit)) (failed (w .fault) (w .place)) (eq-eqb (w .fault) 0 e)

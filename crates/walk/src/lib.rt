@@ -1,144 +1,246 @@
-// The walk from certificate to certificate: each depth after the mappings, or the first failed verdict.
-ghost use mathlib.Core.Bool.{_&&_};
+// The walk from certificate to certificate: the row of each after its mappings, or the first failed verdict.
+ghost use mathlib.Core.Bool.{false, _||_};
 ghost use mathlib.Core.Path.{_≡_};
-ghost use Prim.Native.Nat.{_+_, _-_, _≤_};
-ghost use lib.Dec.{eqb};
+ghost use Prim.Native.Nat.{_*_, _<_, _≤_};
+ghost use lib.ListN.{length};
 ghost use Rattle.rules.specs.Limits as Limits;
-ghost use Rattle.rules.specs.Layout.{certificate-of, path-of};
-ghost use Rattle.levels.proofs.Levels as graph;
-ghost use Rattle.depths.specs.Depth.{Sound, level-of};
-ghost use Rattle.prune.specs.Children.{Deepest, Walked};
-ghost use Rattle.walk.specs.Walking.{next-of, fault-of, Legal, answer-of};
+ghost use Rattle.rules.specs.Numbers as Numbers;
+ghost use Rattle.rules.specs.Sets.{pick, _∈_};
+ghost use Rattle.rules.specs.Counters as rule;
+ghost use Rattle.levels.proofs.Levels as Levels;
+ghost use Rattle.counters.specs.Counted.{counted};
+ghost use Rattle.names.specs.Places.{at};
+ghost use Rattle.record.specs.Record.{head-places, issued, subjected, packed-certificate};
+ghost use Rattle.record.specs.Unpacked.{unpacked};
+ghost use Rattle.record.specs.Puts.{Stands};
+ghost use Rattle.places.specs.Mapped.{path-named};
+ghost use Rattle.places.specs.Numbered.{certificate-at, HeldAt, Numbered};
+ghost use Rattle.rows.specs.Row.{map-row, expect};
+ghost use Rattle.rows.specs.Read.{Small};
+ghost use Rattle.rows.specs.Store.{Clear};
+ghost use Rattle.walk.specs.Walking.{allowed, entered, fault-of, answer-of};
 use counters::Counters;
+use counters::after;
 use counters::explicit_at_end;
 use counters::start;
-use depths::Level;
-use depths::expected;
-use depths::mapped;
-use depths::maps_any;
-use depths::members;
-use depths::new_level;
-use depths::policies;
-use rules::ANY;
+use record::ANY_INHIBIT;
+use record::EXPLICIT_POLICY;
+use record::INHIBIT_ANY;
+use record::INHIBIT_MAPPING;
+use record::MAPPING_INHIBIT;
+use record::N;
+use record::REQUIRE_EXPLICIT;
+use record::SELF_ISSUED;
+use record::count_at;
+use record::flag_at;
+use record::issuers_at;
+use record::number_at;
+use record::policies_at;
+use record::subjects_at;
+use rows::ANY;
+use rows::INHERITED;
+use rows::expect;
+use rows::lists;
+use rows::map_row;
+use rows::new_row;
+use rows::size;
 use rules::ANY_MAPPED;
-use rules::CERTIFICATES;
-use rules::Certificate;
 use rules::NO_GRAPH;
-use rules::Path;
-use sets::Set;
 
-// A depth after the mappings, what its nodes expect, and whether anyPolicy stands there.
-pub struct Next {
-    pub level: Level,
-    pub expected: Set,
-    pub any: bool,
-}
-
-// A failed verdict and the certificate named; or, where `fault` is 0, explicit_policy at the end, certificate n's depth, and those before it.
+// A failed verdict and the certificate named; or, where `fault` is 0, explicit_policy at the end.
 pub struct Reached {
     pub fault: u8,
     pub place: u8,
     pub explicit: usize,
-    pub last: Level,
-    pub levels: [Level; CERTIFICATES],
 }
 
-// The mappings of a certificate before the last.
-fn after_mappings(c: Certificate, mapping: usize, level: Level) -> Next
-    requires { ⌜ c .«mapping_count» ≤ Limits.listed ⌝ }
-    requires { ⌜ Sound level ⌝ }
-    requires { ⌜ level .inherited .len + level .«under_any» .len + Limits.listed ≤ Limits.table ⌝ }
-    ensures { λ r. ⌜ r ≡ next-of (certificate-of c) (graph.mapped mapping (certificate-of c) (level-of level)) ⌝ }
+// "anyPolicy is listed and (inhibit_anyPolicy > 0, or i < n and the certificate is self-issued)"; last where i is n
+fn any_allowed(last: bool, any: usize, self_issued: bool, policies: &[u16]) -> bool
+    ensures { λ r. ⌜ r ≡ allowed last any «self_issued» (now (policies .entry)) ⌝ }
 {
-    let n = c.mapping_count;
-    let issuers = c.issuers;
-    let subjects = c.subjects;
-    let set = sets::of_list(&issuers[..n]);
-    let set_len = set.len;
-    let ds = members(&set.items, set_len);
-    let level = mapped(mapping, ds, level);
-    let nodes = policies(level);
-    let nodes_len = nodes.len;
-    let expected = expected(
-        &issuers[..n],
-        &subjects[..n],
-        ds,
-        members(&nodes.items, nodes_len),
-    );
-    let inherited_len = level.inherited.len;
-    let any = sets::contains(members(&level.inherited.items, inherited_len), ANY);
-    Next {
-        level,
-        expected,
-        any,
+    let listed = lists(policies, 0);
+    if 0 < any {
+        listed
+    } else if last {
+        false
+    } else if self_issued {
+        listed
+    } else {
+        false
     }
 }
 
-// Test 8, then test 9, of a certificate: `inherited` and `under_any` are the sizes of its depth.
-fn fault(explicit: usize, inherited: usize, under_any: usize, c: Certificate) -> u8
-    requires { ⌜ c .«mapping_count» ≤ Limits.listed ⌝ }
-    ensures { λ r. ⌜ r ≡ fault-of explicit (eqb inherited 0 && eqb «under_any» 0) (certificate-of c) ⌝ }
+// Test 9: a mapping names anyPolicy, as issuer or as subject.
+fn mapping_fault(issuers: &[u16], subjects: &[u16]) -> u8
+    ensures { λ r. ⌜ r ≡ pick (0 ∈ now (issuers .entry) || 0 ∈ now (subjects .entry)) Numbers.any-mapped 0 ⌝ }
+{
+    if lists(issuers, 0) {
+        ANY_MAPPED
+    } else if lists(subjects, 0) {
+        ANY_MAPPED
+    } else {
+        0
+    }
+}
+
+// Test 8, then test 9, of a certificate whose row is `row`.
+fn fault(explicit: usize, row: &[u8], issuers: &[u16], subjects: &[u16]) -> u8
+    requires { ⌜ length (now row) < 65536 ⌝ }
+    ensures { λ r. ⌜ r ≡ fault-of explicit (now (row .entry)) (now (issuers .entry)) (now (subjects .entry)) ⌝ }
 {
     if explicit == 0 {
-        if inherited == 0 {
-            if under_any == 0 {
-                return NO_GRAPH;
-            }
+        if size(row) == 0 {
+            NO_GRAPH
+        } else {
+            mapping_fault(issuers, subjects)
         }
+    } else {
+        mapping_fault(issuers, subjects)
     }
-    if maps_any(c) { ANY_MAPPED } else { 0 }
 }
 
-// From the anyPolicy node at depth 0 to certificate n.
-pub fn walk(path: Path) -> Reached
-    requires { ⌜ Legal path ⌝ }
-    ensures { λ r. ⌜ graph.judged (path-of path) ≡ answer-of path r ⌝ }
-    ensures { λ r. ⌜ (r .fault ≡ 0 → Walked (path .certificates) (r .levels) (path .«certificate_count» - 1)) ⌝ }
-    ensures { λ r. ⌜ (r .fault ≡ 0 → Deepest (r .last)) ⌝ }
+// The policies of the certificate at place `at` into its row, and tests 8 and 9.
+fn enter(
+    rec: &[u16],
+    at: usize,
+    last: bool,
+    k: Counters,
+    any_above: bool,
+    expected: &[u8],
+    row: &mut [u8],
+) -> u8
+    requires { ⌜ HeldAt (now rec) (length (now row)) at ⌝ }
+    requires { ⌜ length (now expected) ≡ length (now row) ⌝ }
+    requires { ⌜ length (now row) < 65536 ⌝ }
+    ensures { λ r. ⌜ now (row .exit) ≡ entered last (k .any) «any_above» (certificate-at (now (rec .entry)) at) (now (expected .entry)) (now (row .entry)) ⌝ }
+    ensures { λ r. ⌜ r ≡ fault-of (k .explicit) (now (row .exit)) (issued (certificate-at (now (rec .entry)) at)) (subjected (certificate-at (now (rec .entry)) at)) ⌝ }
 {
-    let n = path.certificate_count;
-    let inherited = sets::none();
-    let under_any = sets::none();
-    let none = Level {
-        inherited,
-        under_any,
-    };
-    let mut levels = [none; CERTIFICATES];
-    let one = [ANY];
-    let mut expected = sets::of_list(&one);
+    let policies = policies_at(rec, at);
+    let self_issued = flag_at(rec, at, SELF_ISSUED);
+    let allowed = any_allowed(last, k.any, self_issued, policies);
+    new_row(allowed, any_above, policies, expected, row);
+    fault(k.explicit, row, issuers_at(rec, at), subjects_at(rec, at))
+}
+
+// The mappings of the certificate at place `at`, which is not the last: its row, and what its nodes then expect.
+fn leave(rec: &[u16], at: usize, mapping: usize, expected: &mut [u8], row: &mut [u8])
+    requires { ⌜ HeldAt (now rec) (length (now row)) at ⌝ }
+    requires { ⌜ length (now expected) ≡ length (now row) ⌝ }
+    requires { ⌜ 0 < length (now row) ⌝ }
+    ensures { λ r. ⌜ now (row .exit) ≡ map-row mapping (issued (certificate-at (now (rec .entry)) at)) (now (row .entry)) ⌝ }
+    ensures { λ r. ⌜ now (expected .exit) ≡ expect (issued (certificate-at (now (rec .entry)) at)) (subjected (certificate-at (now (rec .entry)) at)) (now (row .exit)) (now (expected .entry)) ⌝ }
+{
+    let issuers = issuers_at(rec, at);
+    map_row(mapping, issuers, row);
+    expect(issuers, subjects_at(rec, at), row, expected);
+}
+
+// The counters after the certificate at place `at`, which is not the last.
+fn lower(rec: &[u16], at: usize, k: Counters) -> Counters
+    requires { ⌜ Stands (now rec) at (packed-certificate (certificate-at (now rec) at)) ⌝ }
+    ensures { λ r. ⌜ counted r ≡ rule.after (certificate-at (now (rec .entry)) at) (counted k) ⌝ }
+{
+    after(
+        flag_at(rec, at, SELF_ISSUED),
+        number_at(rec, at, REQUIRE_EXPLICIT),
+        number_at(rec, at, INHIBIT_MAPPING),
+        number_at(rec, at, INHIBIT_ANY),
+        k,
+    )
+}
+
+// The policies and the mappings of the certificate at place `at`, which is not the last; its fault, or 0.
+fn pass(
+    rec: &[u16],
+    at: usize,
+    k: Counters,
+    any_above: bool,
+    expected: &mut [u8],
+    row: &mut [u8],
+) -> u8
+    requires { ⌜ HeldAt (now rec) (length (now row)) at ⌝ }
+    requires { ⌜ length (now expected) ≡ length (now row) ⌝ }
+    requires { ⌜ length (now row) < 65536 ⌝ }
+    requires { ⌜ 0 < length (now row) ⌝ }
+    ensures { λ r. ⌜ r ≡ fault-of (k .explicit) (entered false (k .any) «any_above» (certificate-at (now (rec .entry)) at) (now (expected .entry)) (now (row .entry))) (issued (certificate-at (now (rec .entry)) at)) (subjected (certificate-at (now (rec .entry)) at)) ⌝ }
+    ensures { λ r. ⌜ (r ≡ 0 → now (row .exit) ≡ map-row (k .mapping) (issued (certificate-at (now (rec .entry)) at)) (entered false (k .any) «any_above» (certificate-at (now (rec .entry)) at) (now (expected .entry)) (now (row .entry)))) ⌝ }
+    ensures { λ r. ⌜ (r ≡ 0 → now (expected .exit) ≡ expect (issued (certificate-at (now (rec .entry)) at)) (subjected (certificate-at (now (rec .entry)) at)) (now (row .exit)) (now (expected .entry))) ⌝ }
+{
+    let fault = enter(rec, at, false, k, any_above, expected, row);
+    if fault != 0 {
+        return fault;
+    }
+    leave(rec, at, k.mapping, expected, row);
+    0
+}
+
+// The counters at the start.
+fn begin(rec: &[u16]) -> Counters
+    requires { ⌜ head-places ≤ length (now rec) ⌝ }
+    requires { ⌜ at (now rec) 0 ≤ Limits.certificates ⌝ }
+    ensures { λ r. ⌜ counted r ≡ rule.at-start (unpacked (now (rec .entry))) ⌝ }
+{
+    start(
+        flag_at(rec, 0, EXPLICIT_POLICY),
+        flag_at(rec, 0, MAPPING_INHIBIT),
+        flag_at(rec, 0, ANY_INHIBIT),
+        count_at(rec, 0, N),
+    )
+}
+
+fn wide(k: u16) -> usize
+    ensures { λ r. ⌜ r ≡ k ⌝ }
+{
+    k as usize
+}
+
+// From the anyPolicy node at depth 0 to certificate n. The row of certificate i + 1 stands from place i * u of `store` on, where there are u names.
+pub fn walk(
+    rec: &[u16],
+    starts: &[u16],
+    names: &[u16],
+    expected: &mut [u8],
+    store: &mut [u8],
+) -> Reached
+    requires { ⌜ Numbered (now rec) (now starts) (now names) ⌝ }
+    requires { ⌜ length (now names) < 65536 ⌝ }
+    requires { ⌜ length (now expected) ≡ length (now names) ⌝ }
+    requires { ⌜ Clear (now expected) ⌝ }
+    requires { ⌜ at (now rec) 0 * length (now names) ≤ length (now store) ⌝ }
+    requires { ⌜ Clear (now store) ⌝ }
+    ensures { λ r. ⌜ Levels.judged (path-named (now (names .entry)) (now (rec .entry))) ≡ answer-of (now (rec .entry)) (now (names .entry)) (now (store .exit)) r ⌝ }
+    ensures { λ r. ⌜ (r .fault ≡ 0 → Small (now (store .exit))) ⌝ }
+{
+    let n = count_at(rec, 0, N);
+    let u = names.len();
+    expected[ANY] = 1;
     let mut any_above = true;
-    let mut k = start(path);
+    let mut k = begin(rec);
     let mut i = 0;
     while i + 1 < n {
-        let c = path.certificates[i];
-        let level = new_level(false, k, c, expected, any_above);
-        let fault = fault(k.explicit, level.inherited.len, level.under_any.len, c);
+        let at = wide(starts[i]);
+        let a = i * u;
+        let b = a + u;
+        let fault = pass(rec, at, k, any_above, expected, &mut store[a..b]);
         if fault != 0 {
             return Reached {
                 fault,
                 place: (i + 1) as u8,
                 explicit: 0,
-                last: level,
-                levels,
             };
         }
-        let next = after_mappings(c, k.mapping, level);
-        let after = next.level;
-        levels[i] = after;
-        expected = next.expected;
-        any_above = next.any;
-        k = counters::after(c, k);
+        any_above = store[a] == INHERITED;
+        k = lower(rec, at, k);
         i += 1;
     }
-    let c = path.certificates[i];
-    let last = new_level(true, k, c, expected, any_above);
-    let fault = fault(k.explicit, last.inherited.len, last.under_any.len, c);
-    let explicit = explicit_at_end(c, k);
+    let at = wide(starts[i]);
+    let a = i * u;
+    let b = a + u;
+    let fault = enter(rec, at, true, k, any_above, expected, &mut store[a..b]);
+    let explicit = explicit_at_end(number_at(rec, at, REQUIRE_EXPLICIT), k.explicit);
     Reached {
         fault,
         place: (i + 1) as u8,
         explicit,
-        last,
-        levels,
     }
 }

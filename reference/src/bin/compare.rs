@@ -7,12 +7,13 @@ use std::env;
 use std::process::ExitCode;
 
 use reference::answer::{judge_sheet, Answer, DEPTHS, PLACES};
+use reference::harm::HARMS;
 use reference::judge::{self, Judged, Rewritten};
 use reference::known::{self, E_SHEET};
 use reference::lent::Lent;
 use reference::path::Path;
 use reference::random::{self, Full, Random, FULL_KINDS};
-use reference::{sheet, tree};
+use reference::{everyday, sheet, tree};
 
 /// The least number of random sheets that each answer must get.
 const OFTEN: usize = 500;
@@ -244,10 +245,15 @@ impl Run {
             for length in 0..=faulty.len() {
                 self.both(&faulty[..length], DAMAGE_CAP);
             }
-            for byte in [0x00, 0x01, 0x80, 0xFF] {
-                let longer = [&sheet[..], &[byte]].concat();
-                self.both(&longer, DAMAGE_CAP);
-            }
+            self.byte_more(&sheet);
+        }
+    }
+
+    /// One sheet with a byte more.
+    fn byte_more(&mut self, sheet: &[u8]) {
+        for byte in [0x00, 0x01, 0x80, 0xFF] {
+            let longer = [sheet, &[byte]].concat();
+            self.both(&longer, DAMAGE_CAP);
         }
     }
 
@@ -293,6 +299,19 @@ impl Run {
             self.both(&full, DAMAGE_CAP);
         }
     }
+
+    /// Everyday sheets and those made to harm, each also with a byte less and
+    /// with a byte more.
+    fn everyday_and_harm(&mut self) {
+        let mut paths: Vec<Path> = everyday::shapes().iter().map(|shape| shape.path()).collect();
+        paths.extend(HARMS.map(|kind| kind.path(&mut self.random)));
+        for path in paths {
+            let sheet = sheet::write(&path);
+            self.all_lengths(&sheet);
+            self.both(&sheet[..sheet.len() - 1], DAMAGE_CAP);
+            self.byte_more(&sheet);
+        }
+    }
 }
 
 fn main() -> ExitCode {
@@ -306,6 +325,7 @@ fn main() -> ExitCode {
     run.random_sheets(sheets);
     run.damage();
     run.random_bytes();
+    run.everyday_and_harm();
     println!("compared with the tree: {}, over its cap: {}", run.trees, run.over_cap);
     println!("{} passed, {} failed", run.passed, run.failed);
     if run.failed == 0 {

@@ -1,7 +1,6 @@
 -- `judge_path` meets its contract: 7 first, then a fault of the path, then the judgement.
-use mathlib.Core.Path.{_≡_, refl, sym, ap, ap₂, _∙_, subst, subst⁻¹}
+use mathlib.Core.Path.{sym, ap, _∙_}
 use denote.Ref.{now}
-use native.Mathlib.Omega.{arith}
 use Rattle.rules.specs.Graph as Graph
 use Rattle.rules.specs.Judge.{refusal}
 use Rattle.graph.proofs.Laws.{refused-is, short-authority, short-user, faulty, sound}

@@ -1,4 +1,4 @@
--- `sets::clear` meets its contract. The invariant: the first `place` places are zero, and the others as they were.
+-- `clear` meets its contract: the first `place` places are zero and the others as they were, and what is left of the table falls.
 use Prim.Native.Nat.{_≤_, _-_}
 use mathlib.Core.List.{_++_, append-nil}
 use mathlib.Core.Path.{_≡_, ap, _∙_}
@@ -14,37 +14,20 @@ abbrev Inv-loop : tie.InvT-loop
 Inv-loop table₀ place₀ table place = (place ≤ length table₀) × (length table ≡ length table₀) × (table ≡ replicate place 0 ++ drop place table₀)
 
 abbrev μ-loop : tie.MeasureT-loop
-μ-loop table₀ place₀ table place = length table - place
-
-loop-holds : tie.Need-loop-holds Inv-loop μ-loop
-loop-holds c = search needs
-
-mul-table : tie.Need-mul-table Inv-loop μ-loop
-mul-table c = omega arith
-
-slice-write-table : tie.Need-slice-write-table Inv-loop μ-loop
-slice-write-table c = omega arith
-
-add-place : tie.Need-add-place Inv-loop μ-loop
-add-place c = omega arith
-
-loop-less : tie.Need-loop-less Inv-loop μ-loop
-loop-less c = simp length-set (omega arith)
+μ-loop table₀ place₀ table place = length table₀ - place
 
 loop-again : tie.Need-loop-again Inv-loop μ-loop
 loop-again c =
-    let at-loop = c .before in
-    (omega arith, simp length-set (omega arith), ap (λ l. set l (at-loop .loop .place) 0) (at-loop .loop .inv .2) ∙ fill-more (at-loop .loop .place) 0 _ (omega arith))
-
-same-length : tie.Need-same-length Inv-loop μ-loop
-same-length c = c .before .loop .inv .1
+    let l = c .before in
+    let place = l .loop .place in
+    (omega arith, length-set (l .loop .table) _ _ ∙ l .loop .inv .1, ap (λ xs. set xs place 0) (l .loop .inv .2) ∙ fill-more place 0 _ (omega arith))
 
 returns : tie.Need-returns Inv-loop μ-loop
 returns c =
-    let at-loop = c .before in
-    let table = at-loop .before .args .table .now in
-    let e : at-loop .loop .place ≡ length table = omega arith in
-    at-loop .loop .inv .2 ∙ ap (λ k. replicate k 0 ++ drop k table) e ∙ ap (λ l. replicate (length table) 0 ++ l) (drop-length table) ∙ append-nil _
+    let l = c .before in
+    let table = l .before .args .table .now in
+    let e : l .loop .place ≡ length table = omega arith in
+    l .loop .inv .2 ∙ ap (λ k. replicate k 0 ++ drop k table) e ∙ ap (λ xs. replicate (length table) 0 ++ xs) (drop-length table) ∙ append-nil _
 
 pub clear-spec : {M : Type 1} → statement M
 clear-spec =
@@ -52,11 +35,11 @@ clear-spec =
     (tie.spec
     Inv-loop
     μ-loop
-    loop-holds
-    mul-table
-    slice-write-table
-    add-place
-    loop-less
+    (λ c. search needs)
+    (λ c. search needs)
+    (λ c. search needs)
+    (λ c. search needs)
+    (λ c. search needs)
     loop-again
-    same-length
+    (λ c. c .before .loop .inv .1)
     returns)

@@ -1,5 +1,7 @@
--- `sets::copy` meets its contract. The invariant: the first `i` elements of `list` are copied.
+-- `copy` meets its contract: the first `i` elements of `list` are copied, and what is left of it falls.
 use Prim.Native.Nat.{_-_}
+use borrow.Author.Needs.{needs}
+use mathlib.Core.Path.{_≡_}
 use native.Mathlib.Omega.{arith}
 use lib.ListN.{length}
 use Rattle.sets.proofs.Places.{Copied, copied-none, copied-length, copied-more, copied-all}
@@ -12,41 +14,8 @@ Inv-loop table₀ at list i₀ table i = Copied table₀ at list i table
 abbrev μ-loop : tie.MeasureT-loop
 μ-loop table₀ at list i₀ table i = length list - i
 
-loop-holds : tie.Need-loop-holds Inv-loop μ-loop
-loop-holds c = copied-none (c .pre)
-
-mul-table : tie.Need-mul-table Inv-loop μ-loop
-mul-table c = omega arith
-
-shared-slice-read-table : tie.Need-shared-slice-read-table Inv-loop μ-loop
-shared-slice-read-table c = omega arith
-
-add-table : tie.Need-add-table Inv-loop μ-loop
-add-table c = omega arith
-
-mul-table-2 : tie.Need-mul-table-2 Inv-loop μ-loop
-mul-table-2 c = omega (arith, copied-length (c .before .before .before .pre) (c .before .before .loop .inv))
-
-slice-write-table : tie.Need-slice-write-table Inv-loop μ-loop
-slice-write-table c = omega (arith, copied-length (c .before .before .before .pre) (c .before .before .loop .inv))
-
-add-i : tie.Need-add-i Inv-loop μ-loop
-add-i c = omega arith
-
-loop-less : tie.Need-loop-less Inv-loop μ-loop
-loop-less c = omega arith
-
-loop-again : tie.Need-loop-again Inv-loop μ-loop
-loop-again c = copied-more (c .before .before .before .pre) (c .before .loop-test .taken) (c .before .before .loop .inv)
-
-add-result : tie.Need-add-result Inv-loop μ-loop
-add-result c = omega arith
-
-same-length : tie.Need-same-length Inv-loop μ-loop
-same-length c = copied-length (c .before .before .pre) (c .before .loop .inv)
-
-returns : tie.Need-returns Inv-loop μ-loop
-returns c = (omega arith, copied-all (c .before .before .pre) (c .loop-test .left) (c .before .loop .inv))
+same : (c : tie.At-loop Inv-loop μ-loop) → length (c .loop .table) ≡ length (c .before .args .table .now)
+same c = copied-length (c .before .pre) (c .loop .inv)
 
 pub copy-spec : {M : Type 1} → statement M
 copy-spec =
@@ -54,15 +23,15 @@ copy-spec =
     (tie.spec
     Inv-loop
     μ-loop
-    loop-holds
-    mul-table
-    shared-slice-read-table
-    add-table
-    mul-table-2
-    slice-write-table
-    add-i
-    loop-less
-    loop-again
-    add-result
-    same-length
-    returns)
+    (λ c. copied-none (c .pre))
+    (λ c. search needs)
+    (λ c. search needs)
+    (λ c. search needs)
+    (λ c. omega (arith, same (c .before .before)))
+    (λ c. omega (arith, same (c .before .before)))
+    (λ c. search needs)
+    (λ c. search needs)
+    (λ c. let l = c .before .before in copied-more (l .before .pre) (c .before .loop-test .taken) (l .loop .inv))
+    (λ c. search needs)
+    (λ c. same (c .before))
+    (λ c. let l = c .before in (omega arith, copied-all (l .before .pre) (c .loop-test .left) (l .loop .inv))))

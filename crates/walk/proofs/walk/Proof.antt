@@ -1,147 +1,164 @@
 -- `walk` meets its contract: the invariant: Walking, of Steps. The measure is the number of certificates to go.
-use mathlib.Core.Bool.{Bool, false}
-use Rattle.rules.specs.Answers.{failed}
-use Rattle.rules.specs.Layout.{certificate-of, path-of}
-use Rattle.levels.proofs.Levels.{mapped, Level}
-use Rattle.depths.specs.Depth.{level-of, no-certificate}
-use Rattle.depths.proofs.Sizes.{level-of-stored}
-use Rattle.walk.proofs.Laws.{next-level, next-expected, next-any}
-use mathlib.Core.Path.{_≡_, refl, sym, ap, ap₂, _∙_, subst, subst⁻¹}
-use Prim.Native.Nat.{suc, _≤_, _<_, _-_, _+_, ℕ}
+use Prim.Native.Nat.{ℕ, suc, pred, _+_, _-_, _*_, _≤_, _<_}
 use native.Mathlib.Omega.{arith}
 use native.Mathlib.Numerals.{add-one}
-use Rattle.rules.specs.Limits as Limits
-use lib.ListN.{length, length-map, length-replicate, getD, set}
-use Rattle.walk.proofs.Steps.{Walking, walk-start, sound-new, few-new, walk-fails, walk-next, walk-deepest, walk-walked, walk-ends, answer-fails, at, new, mapped-new}
-use Rattle.walk.specs.Walking.{Legal, next-of}
+use mathlib.Core.Bool.{true, false}
+use mathlib.Core.List.{List}
+use mathlib.Core.Path.{_≡_, refl, sym, ap, _∙_, subst, subst⁻¹}
+use lib.Dec.{eqb}
+use lib.ListN.{length, length-set, take, drop}
+use borrow.Rule.Slice.PartMut.{putMid}
 use borrow.Author.Needs.{needs}
+use Rattle.rules.specs.Counters.{zeroed}
+use Rattle.rules.specs.Answers.{failed}
+use Rattle.names.specs.Places.{at}
+use Rattle.record.specs.Record.{issued, subjected}
+use Rattle.record.specs.Unpacked.{skip-of}
+use Rattle.places.specs.Numbered.{certificate-at, Numbered}
+use Rattle.rows.specs.Row.{expect}
+use Rattle.rows.specs.Read.{Small}
+use Rattle.rows.specs.Store.{row}
+use Rattle.rows.proofs.Places.{some-name}
+use Rattle.rows.proofs.Store.{length-put, row-put, row-first}
+use Rattle.walk.specs.declared.Reached.{Reached}
+use Rattle.walk.specs.Walking.{fault-of, answer-of}
+use Rattle.walk.proofs.Parts.{require-explicit-is, head-room}
+use Rattle.walk.proofs.Steps.{Walking, walk-start, row-room, row-length, held-at, failing, failing-at, mapped-row, mapped-at, next-wanted, expect-at, after-at, here, walk-fails, walk-next, walking-same, answer-fails, new, new-at, new-length, end-at, walk-ends, last-small}
 use Rattle.walk.proofs.walk.Statement.{statement}
 use Rattle.walk.proofs.walk.Tie as tie
 
 abbrev Inv-loop : tie.InvT-loop
-Inv-loop path n levels₀ expected₀ any-above₀ k₀ i₀ levels expected any-above k i = Walking path levels expected any-above k i
+Inv-loop rec starts names expected₀ store₀ n u any-above₀ k₀ i₀ expected store any-above k i =
+    Walking rec names expected store any-above k i × (length expected ≡ length expected₀) × (length store ≡ length store₀)
 
 abbrev μ-loop : tie.MeasureT-loop
-μ-loop path n levels₀ expected₀ any-above₀ k₀ i₀ levels expected any-above k i = path .«certificate_count» - i
+μ-loop rec starts names expected₀ store₀ n u any-above₀ k₀ i₀ expected store any-above k i = n - i
 
-fits : (c : tie.Start Inv-loop μ-loop) → c .args .t1 .«certificate_count» ≤ length (c .args .t1 .certificates)
-fits c = let e : length (c .args .t1 .certificates) ≡ Limits.certificates = simp length-map at (c .good .0 .1 .1 .1 .1 .1 .1 .1 .1 .0 .1 .0 .1) in omega (arith, c .pre .most)
+-- at the loop: the arguments, what was required of them, and the invariant
 
-more : (c : tie.In-loop Inv-loop μ-loop) → suc (c .before .loop .i) < c .before .before .before .before .before .before .before .args .t1 .«certificate_count»
-more c = omega (arith, c .loop-test .taken)
+abbrev begun : tie.At-loop Inv-loop μ-loop → tie.Start Inv-loop μ-loop
+begun l = l .before .before .before .before .before .before .before .before
 
-end : (c : tie.After-loop Inv-loop μ-loop) → c .before .before .before .before .before .before .before .args .t1 .«certificate_count» ≤ suc (c .before .loop .i)
-end c = omega (arith, c .loop-test .left)
+numbered : (l : tie.At-loop Inv-loop μ-loop) → Numbered (begun l .args .rec .now) (begun l .args .starts .now) (begun l .args .names .now)
+numbered l = begun l .pre .0
 
-after-is : (c : tie.After-after-mappings Inv-loop μ-loop) → c .after-mappings .result ≡ next-of (certificate-of (getD (c .before .before .before .before .before .before .before .before .before .before .before .before .args .t1 .certificates) (c .before .before .before .before .before .before .loop .i) no-certificate)) (mapped-new _ (c .before .before .before .before .before .before .before .before .before .before .before .before .pre) (fits (c .before .before .before .before .before .before .before .before .before .before .before .before)) (c .before .before .before .before .before .before .loop .inv) (c .before .before .before .new-level .ensures) (more (c .before .before .before .before .before)) (c .before .before .fault .ensures))
-after-is c =
-    let C = certificate-of (getD (c .before .before .before .before .before .before .before .before .before .before .before .before .args .t1 .certificates) (c .before .before .before .before .before .before .loop .i) no-certificate) in
-    c .after-mappings .ensures ∙ ap (λ L. next-of C (mapped (c .before .before .before .before .before .before .loop .k .mapping) C L)) (level-of-stored _ (c .before .before .before .new-level .ensures))
+walking : (l : tie.At-loop Inv-loop μ-loop) → Walking (begun l .args .rec .now) (begun l .args .names .now) (l .loop .expected) (l .loop .store) (l .loop .any-above) (l .loop .k) (l .loop .i)
+walking l = l .loop .inv .0
 
-none-requires : tie.Need-none-requires Inv-loop μ-loop
-none-requires c κs = Prim.tt
+count : (l : tie.At-loop Inv-loop μ-loop) → l .before .before .count-at .result ≡ at (begun l .args .rec .now) 0
+count l = l .before .before .count-at .ensures
 
-none-requires-2 : tie.Need-none-requires-2 Inv-loop μ-loop
-none-requires-2 c κs = Prim.tt
+-- the certificate's row in the store
+room : (l : tie.At-loop Inv-loop μ-loop) → l .loop .i * length (begun l .args .names .now) + length (begun l .args .names .now) ≤ length (l .loop .store)
+room l = row-room (numbered l) (walking l)
 
-slice-aggregate-of-list : tie.Need-slice-aggregate-of-list Inv-loop μ-loop
-slice-aggregate-of-list c = refl
+fits : (l : tie.At-loop Inv-loop μ-loop) → l .loop .i < length (begun l .args .starts .now)
+fits l = omega (arith, walking l .some, numbered l .fit)
 
-of-list-requires : tie.Need-of-list-requires Inv-loop μ-loop
-of-list-requires c κs = omega arith
+part-row : (s : List ℕ) (u i : ℕ) → take (i * u + u - i * u) (drop (i * u) s) ≡ row s u i
+part-row s u i = let e : i * u + u - i * u ≡ u = omega arith in ap (λ n. take n (drop (i * u) s)) e
 
-start-requires : tie.Need-start-requires Inv-loop μ-loop
-start-requires c κs = c .before .before .before .before .pre .most
+-- after a certificate before the last: `pass` has left a row and what its nodes expect
 
-loop-holds : tie.Need-loop-holds Inv-loop μ-loop
-loop-holds c = walk-start _ (c .before .before .before .before .before .pre) (fits (c .before .before .before .before .before)) _ _ _ refl (c .before .of-list .ensures) (c .start .ensures)
+abbrev passing : tie.After-pass Inv-loop μ-loop → tie.At-loop Inv-loop μ-loop
+passing p = p .before .before .before .before .before .before
 
-add-loop : tie.Need-add-loop Inv-loop μ-loop
-add-loop c = omega (arith, c .loop .inv .some, c .before .before .before .before .before .before .pre .most)
+abbrev row-left : tie.After-pass Inv-loop μ-loop → List ℕ
+row-left p = p .pass .last .1 .1 .1 .1 .1 .0
 
-mul-c : tie.Need-mul-c Inv-loop μ-loop
-mul-c c = omega (arith, c .before .loop .inv .some, c .before .before .before .before .before .before .before .pre .most)
+abbrev wanted-left : tie.After-pass Inv-loop μ-loop → List ℕ
+wanted-left p = p .pass .last .1 .1 .1 .1 .0
 
-element-copy-out-c : tie.Need-element-copy-out-c Inv-loop μ-loop
-element-copy-out-c c = omega (arith, c .before .loop .inv .some, c .before .before .before .before .before .before .before .pre .most)
+same-row : (l : tie.At-loop Inv-loop μ-loop) → take (l .loop .i * length (begun l .args .names .now) + length (begun l .args .names .now) - l .loop .i * length (begun l .args .names .now)) (drop (l .loop .i * length (begun l .args .names .now)) (l .loop .store)) ≡ row (l .loop .store) (length (begun l .args .names .now)) (l .loop .i)
+same-row l = part-row (l .loop .store) (length (begun l .args .names .now)) (l .loop .i)
 
-new-level-requires : tie.Need-new-level-requires Inv-loop μ-loop
-new-level-requires c κs = (c .before .before .before .before .before .before .before .before .pre .policies _ (c .before .before .loop .inv .some), c .before .before .loop .inv .held)
+place : (p : tie.After-pass Inv-loop μ-loop) → p .before .before .before .wide .result ≡ at (begun (passing p) .args .starts .now) (passing p .loop .i)
+place p = p .before .before .before .wide .ensures
 
-fault-requires : tie.Need-fault-requires Inv-loop μ-loop
-fault-requires c κs = c .before .before .before .before .before .before .before .before .before .pre .mappings _ (c .before .before .before .loop .inv .some)
+row-long : (p : tie.After-pass Inv-loop μ-loop) → length (row-left p) ≡ length (begun (passing p) .args .names .now)
+row-long p =
+    let l = passing p in
+    let e : length (row-left p) ≡ length (take (l .loop .i * length (begun l .args .names .now) + length (begun l .args .names .now) - l .loop .i * length (begun l .args .names .now)) (drop (l .loop .i * length (begun l .args .names .now)) (l .loop .store))) = search needs in
+    e ∙ ap length (same-row l) ∙ row-length (numbered l) (walking l)
 
-add-t30 : tie.Need-add-t30 Inv-loop μ-loop
-add-t30 c = omega (arith, c .before .before .before .before .before .loop .inv .some, c .before .before .before .before .before .before .before .before .before .before .before .pre .most)
+wanted-long : (p : tie.After-pass Inv-loop μ-loop) → length (wanted-left p) ≡ length (passing p .loop .expected)
+wanted-long p = search needs
 
-cast-t31 : tie.Need-cast-t31 Inv-loop μ-loop
-cast-t31 c = omega (arith, c .before .before .before .before .before .loop .inv .some, c .before .before .before .before .before .before .before .before .before .before .before .pre .most)
+fault-is : (p : tie.After-pass Inv-loop μ-loop) → p .pass .result ≡ failing (numbered (passing p)) (walking (passing p)) false
+fault-is p = p .pass .ensures .0 ∙ failing-at (numbered (passing p)) (walking (passing p)) (same-row (passing p)) (place p) false
 
-returns : tie.Need-returns Inv-loop μ-loop
-returns c = (
-  walk-fails _ (c .before .before .before .before .before .before .before .before .before .before .before .pre) (fits (c .before .before .before .before .before .before .before .before .before .before .before)) (c .before .before .before .before .before .loop .inv) (c .before .before .new-level .ensures) (more (c .before .before .before .before)) (c .before .fault .ensures) (c .if1 .taken) ∙ ap (failed _) (sym (add-one (c .before .before .before .before .before .loop .i))) ∙ sym (answer-fails _ _ (c .if1 .taken)),
-  ((λ e. absurd (c .if1 .taken e)), (λ e. absurd (c .if1 .taken e))),
-)
+row-is : (p : tie.After-pass Inv-loop μ-loop) (more : suc (passing p .loop .i) < at (begun (passing p) .args .rec .now) 0) → p .pass .result ≡ 0 → row-left p ≡ mapped-row (numbered (passing p)) (walking (passing p)) more (fault-is p)
+row-is p more z = p .pass .ensures .1 .0 z ∙ mapped-at (numbered (passing p)) (walking (passing p)) (same-row (passing p)) (place p)
 
-after-mappings-requires : tie.Need-after-mappings-requires Inv-loop μ-loop
-after-mappings-requires c κs = (
-  c .before .before .before .before .before .before .before .before .before .before .before .pre .mappings _ (c .before .before .before .before .before .loop .inv .some),
-  (
-    sound-new _ (c .before .before .before .before .before .before .before .before .before .before .before .pre) (fits (c .before .before .before .before .before .before .before .before .before .before .before)) (c .before .before .before .before .before .loop .inv) _ (c .before .before .new-level .ensures),
-    omega (arith, few-new _ (c .before .before .before .before .before .before .before .before .before .before .before .pre) (fits (c .before .before .before .before .before .before .before .before .before .before .before)) (c .before .before .before .before .before .loop .inv) _ (c .before .before .new-level .ensures), more (c .before .before .before .before), c .before .before .before .before .before .before .before .before .before .before .before .pre .most),
-  ),
-)
+wanted-is : (p : tie.After-pass Inv-loop μ-loop) (more : suc (passing p .loop .i) < at (begun (passing p) .args .rec .now) 0) → p .pass .result ≡ 0 → wanted-left p ≡ next-wanted (numbered (passing p)) (walking (passing p)) more (fault-is p)
+wanted-is p more z =
+    let l = passing p in
+    p .pass .ensures .1 .1 z ∙ expect-at (numbered l) (walking l) (same-row l) (place p) (row-left p)
+    ∙ ap (λ x. expect (issued (here (numbered l) (walking l))) (subjected (here (numbered l) (walking l))) x (l .loop .expected)) (row-is p more z)
 
-mul-levels : tie.Need-mul-levels Inv-loop μ-loop
-mul-levels c = omega (arith, c .before .before .before .before .before .before .before .loop .inv .some, c .before .before .before .before .before .before .before .before .before .before .before .before .before .pre .most)
+-- the store with ys for the certificate's row
+put-width : (u i : ℕ) (s ys : List ℕ) → putMid (i * u) (i * u + u - i * u) s ys ≡ putMid (i * u) u s ys
+put-width u i s ys = let e : i * u + u - i * u ≡ u = omega arith in ap (λ k. putMid (i * u) k s ys) e
 
-array-set-from-levels : tie.Need-array-set-from-levels Inv-loop μ-loop
-array-set-from-levels c = omega (arith, c .before .before .before .before .before .before .before .loop .inv .some, c .before .before .before .before .before .before .before .before .before .before .before .before .before .pre .most)
+put-long : (l : tie.At-loop Inv-loop μ-loop) (ys : List ℕ) → length ys ≡ length (begun l .args .names .now) → length (putMid (l .loop .i * length (begun l .args .names .now)) (l .loop .i * length (begun l .args .names .now) + length (begun l .args .names .now) - l .loop .i * length (begun l .args .names .now)) (l .loop .store) ys) ≡ length (l .loop .store)
+put-long l ys e = ap length (put-width (length (begun l .args .names .now)) (l .loop .i) (l .loop .store) ys) ∙ length-put (l .loop .store) ys (length (begun l .args .names .now)) (l .loop .i) (room l) e
 
-after-requires : tie.Need-after-requires Inv-loop μ-loop
-after-requires c κs = Prim.tt
+more : (c : tie.In-loop Inv-loop μ-loop) → suc (c .before .loop .i) < at (begun (c .before) .args .rec .now) 0
+more c = omega (arith, c .loop-test .taken, count (c .before))
 
-add-i : tie.Need-add-i Inv-loop μ-loop
-add-i c = omega (arith, c .before .before .before .before .before .before .before .before .before .loop .inv .some, c .before .before .before .before .before .before .before .before .before .before .before .before .before .before .before .pre .most)
+any-is : (p : tie.After-pass Inv-loop μ-loop) (m : suc (passing p .loop .i) < at (begun (passing p) .args .rec .now) 0) (z : p .pass .result ≡ 0)
+    → eqb (at (putMid (passing p .loop .i * length (begun (passing p) .args .names .now)) (passing p .loop .i * length (begun (passing p) .args .names .now) + length (begun (passing p) .args .names .now) - passing p .loop .i * length (begun (passing p) .args .names .now)) (passing p .loop .store) (row-left p)) (passing p .loop .i * length (begun (passing p) .args .names .now))) 1
+    ≡ eqb (at (mapped-row (numbered (passing p)) (walking (passing p)) m (fault-is p)) 0) 1
+any-is p m z =
+    let l = passing p in
+    let u = length (begun l .args .names .now) in
+    let i = l .loop .i in
+    let s = l .loop .store in
+    ap (λ x. eqb (at x (i * u)) 1) (put-width u i s (row-left p))
+    ∙ ap (λ x. eqb x 1) (sym (row-first (putMid (i * u) u s (row-left p)) u i (some-name (begun l .args .names .now) (numbered l .named))) ∙ ap (λ r. at r 0) (row-put s (row-left p) u i (room l) (row-long p) ∙ row-is p m z))
 
-loop-less : tie.Need-loop-less Inv-loop μ-loop
-loop-less c = omega (arith, c .before .before .before .before .before .before .before .before .loop-test .taken)
+-- after certificate n: `enter` has left its row
 
-loop-again : tie.Need-loop-again Inv-loop μ-loop
-loop-again c =
-    let C = certificate-of (getD (c .before .before .before .before .before .before .before .before .before .before .before .before .before .before .before .args .t1 .certificates) (c .before .before .before .before .before .before .before .before .before .loop .i) no-certificate) in
-    let a = after-is (c .before .before .before) in
-    let r = c .before .before .before .after-mappings .result in
-    let w = walk-next _ (c .before .before .before .before .before .before .before .before .before .before .before .before .before .before .before .pre) (fits (c .before .before .before .before .before .before .before .before .before .before .before .before .before .before .before)) (c .before .before .before .before .before .before .before .before .before .loop .inv) (c .before .before .before .before .before .before .new-level .ensures) (more (c .before .before .before .before .before .before .before .before)) (c .before .before .before .before .before .fault .ensures) (c .before .before .before .before .if1 .left) (next-level C _ a) (next-expected C _ a) (c .after2 .ensures) in
-    subst⁻¹ (Walking (c .before .before .before .before .before .before .before .before .before .before .before .before .before .before .before .args .t1) (set (c .before .before .before .before .before .before .before .before .before .loop .levels) (c .before .before .before .before .before .before .before .before .before .loop .i) (r .level)) (r .expected) (r .any) (c .after2 .result)) (add-one (c .before .before .before .before .before .before .before .before .before .loop .i))
-    (subst⁻¹ (λ b. Walking (c .before .before .before .before .before .before .before .before .before .before .before .before .before .before .before .args .t1) (set (c .before .before .before .before .before .before .before .before .before .loop .levels) (c .before .before .before .before .before .before .before .before .before .loop .i) (r .level)) (r .expected) b (c .after2 .result) (suc (c .before .before .before .before .before .before .before .before .before .loop .i))) (next-any C _ a) w)
+abbrev ending : tie.After-enter Inv-loop μ-loop → tie.At-loop Inv-loop μ-loop
+ending e = e .before .before .before .before .before .before
 
-mul-c-2 : tie.Need-mul-c-2 Inv-loop μ-loop
-mul-c-2 c = omega (arith, c .before .loop .inv .some, c .before .before .before .before .before .before .before .pre .most)
+abbrev last-left : tie.After-enter Inv-loop μ-loop → List ℕ
+last-left e = e .enter .last .1 .1 .1 .1 .1 .1 .0
 
-element-copy-out-c-2 : tie.Need-element-copy-out-c-2 Inv-loop μ-loop
-element-copy-out-c-2 c = omega (arith, c .before .loop .inv .some, c .before .before .before .before .before .before .before .pre .most)
+place-last : (e : tie.After-enter Inv-loop μ-loop) → e .before .before .before .wide2 .result ≡ at (begun (ending e) .args .starts .now) (ending e .loop .i)
+place-last e = e .before .before .before .wide2 .ensures
 
-new-level-requires-2 : tie.Need-new-level-requires-2 Inv-loop μ-loop
-new-level-requires-2 c κs = (c .before .before .before .before .before .before .before .before .pre .policies _ (c .before .before .loop .inv .some), c .before .before .loop .inv .held)
+last-is : (e : tie.After-enter Inv-loop μ-loop) → last-left e ≡ new (numbered (ending e)) (walking (ending e)) true
+last-is e = e .enter .ensures .0 ∙ new-at (numbered (ending e)) (walking (ending e)) (same-row (ending e)) (place-last e) true
 
-fault-requires-2 : tie.Need-fault-requires-2 Inv-loop μ-loop
-fault-requires-2 c κs = c .before .before .before .before .before .before .before .before .before .pre .mappings _ (c .before .before .before .loop .inv .some)
+last-long : (e : tie.After-enter Inv-loop μ-loop) → length (last-left e) ≡ length (begun (ending e) .args .names .now)
+last-long e = ap length (last-is e) ∙ new-length (numbered (ending e)) (walking (ending e)) true
 
-explicit-at-end-requires : tie.Need-explicit-at-end-requires Inv-loop μ-loop
-explicit-at-end-requires c κs = Prim.tt
+last-fault : (e : tie.After-enter Inv-loop μ-loop) → e .enter .result ≡ failing (numbered (ending e)) (walking (ending e)) true
+last-fault e =
+    let l = ending e in
+    let d = certificate-at (begun l .args .rec .now) (e .before .before .before .wide2 .result) in
+    e .enter .ensures .1 ∙ ap (λ r. fault-of (l .loop .k .explicit) r (issued d) (subjected d)) (e .enter .ensures .0)
+    ∙ failing-at (numbered l) (walking l) (same-row l) (place-last e) true
 
-add-t35 : tie.Need-add-t35 Inv-loop μ-loop
-add-t35 c = omega (arith, c .before .before .before .before .before .loop .inv .some, c .before .before .before .before .before .before .before .before .before .before .before .pre .most)
-
-cast-t39 : tie.Need-cast-t39 Inv-loop μ-loop
-cast-t39 c = omega (arith, c .before .before .before .before .before .loop .inv .some, c .before .before .before .before .before .before .before .before .before .before .before .pre .most)
+end : (c : tie.After-loop Inv-loop μ-loop) → at (begun (c .before) .args .rec .now) 0 ≤ suc (c .before .loop .i)
+end c = omega (arith, c .loop-test .left, count (c .before))
 
 returns-2 : tie.Need-returns-2 Inv-loop μ-loop
-returns-2 c = (
-  walk-ends _ (c .before .before .before .before .before .before .before .before .before .before .before .pre) (fits (c .before .before .before .before .before .before .before .before .before .before .before)) (c .before .before .before .before .before .loop .inv) (c .before .before .new-level2 .ensures) (end (c .before .before .before .before)) (c .before .fault2 .ensures) (add-one (c .before .before .before .before .before .loop .i)) (c .explicit-at-end .ensures) refl refl,
-  ((λ e. walk-walked _ (c .before .before .before .before .before .before .before .before .before .before .before .pre) (fits (c .before .before .before .before .before .before .before .before .before .before .before)) (c .before .before .before .before .before .loop .inv) (c .before .before .new-level2 .ensures) (end (c .before .before .before .before))), (λ e. walk-deepest _ (c .before .before .before .before .before .before .before .before .before .before .before .pre) (fits (c .before .before .before .before .before .before .before .before .before .before .before)) (c .before .before .before .before .before .loop .inv) (c .before .before .new-level2 .ensures) (end (c .before .before .before .before)))),
-)
+returns-2 c =
+    let e = c .before .before .before .before in
+    let l = ending e in
+    let a = begun l .args in
+    let u = length (a .names .now) in
+    let stop = end (e .before .before .before .before .before) in
+    let same = put-width u (l .loop .i) (l .loop .store) (last-left e) ∙ ap (putMid (l .loop .i * u) u (l .loop .store)) (last-is e) in
+    let skip = ap skip-of (c .before .number-at .ensures) ∙ require-explicit-is (a .rec .now) (e .before .before .before .wide2 .result) in
+    let explicit = c .explicit-at-end .ensures ∙ ap (λ x. zeroed x (pred (l .loop .k .explicit))) skip ∙ end-at (numbered l) (walking l) (same-row l) (place-last e) in
+    let w : Reached = record { fault = e .enter .result; place = l .loop .i + 1; explicit = c .explicit-at-end .result } in
+    (walk-ends (numbered l) (walking l) stop {w = w} (last-fault e) (add-one (l .loop .i)) explicit ∙ ap (λ s. answer-of (a .rec .now) (a .names .now) s w) (sym same), (λ z. subst⁻¹ Small same (last-small (numbered l) (walking l) stop)))
+
+head : (c : tie.Start Inv-loop μ-loop) → 5 ≤ length (c .args .rec .now)
+head c = omega (arith, c .pre .0 .head)
 
 pub walk-spec : {M : Type 1} → statement M
 walk-spec =
@@ -149,32 +166,70 @@ walk-spec =
     (tie.spec
     Inv-loop
     μ-loop
-    none-requires
-    none-requires-2
-    slice-aggregate-of-list
-    of-list-requires
-    start-requires
-    loop-holds
-    add-loop
-    mul-c
-    element-copy-out-c
-    new-level-requires
-    fault-requires
-    add-t30
-    cast-t31
-    returns
-    after-mappings-requires
-    mul-levels
-    array-set-from-levels
-    after-requires
-    add-i
-    loop-less
-    loop-again
-    mul-c-2
-    element-copy-out-c-2
-    new-level-requires-2
-    fault-requires-2
-    explicit-at-end-requires
-    add-t35
-    cast-t39
+    (λ c κs. omega (arith, head (c .before .before .before .before .before)))
+    (λ c. omega (arith, some-name _ (c .before .before .before .before .before .before .pre .0 .named), c .before .before .before .before .before .before .pre .1 .1 .0))
+    (λ c κs. (head (c .before .before .before .before .before .before), c .before .before .before .before .before .before .pre .0 .most))
+    (λ c.
+    let s = c .before .before .before .before .before .before .before in
+    (walk-start (s .pre .0) (s .args .expected .now) (s .args .store .now) (c .begin .result) (s .pre .1 .1 .0) (s .pre .1 .1 .1 .0) (s .pre .1 .1 .1 .1 .0) (s .pre .1 .1 .1 .1 .1) (c .begin .ensures), refl, refl))
+    (λ c. omega (arith, walking c .some, numbered c .most))
+    (λ c. omega (arith, walking (c .before) .some, numbered (c .before) .most))
+    (λ c. fits (c .before .before))
+    (λ c κs. search needs)
+    (λ c. omega (arith, room (c .before .before .before)))
+    (λ c. omega (arith, room (c .before .before .before)))
+    (λ c. search needs)
+    (λ c. omega arith)
+    (λ c. omega (arith, room (c .before .before .before .before)))
+    (λ c κs.
+    let l = c .before .before .before .before .before in
+    let u = begun l .args .names .now in
+    let e = part-row (l .loop .store) (length u) (l .loop .i) in
+    let n = ap length e ∙ row-length (numbered l) (walking l) in
+    (held-at (numbered l) (walking l) e (c .before .before .wide .ensures), (walking l .wide ∙ sym n, (omega (arith, n, begun l .pre .1 .0), omega (arith, n, some-name u (numbered l .named))))))
+    (λ c. omega (arith, walking (c .before .before .before .before .before .before .before .before .before .before .before) .some, numbered (c .before .before .before .before .before .before .before .before .before .before .before) .most))
+    (λ c. omega (arith, walking (c .before .before .before .before .before .before .before .before .before .before .before) .some, numbered (c .before .before .before .before .before .before .before .before .before .before .before) .most))
+    (λ c.
+    let p = c .before .before .before .before .before in
+    let l = passing p in
+    wanted-long p ∙ l .loop .inv .1 ∙ length-set (begun l .args .expected .now) 0 1)
+    (λ c.
+    let p = c .before .before .before .before .before in
+    put-long (passing p) (row-left p) (row-long p) ∙ passing p .loop .inv .2)
+    (λ c.
+    let p = c .before .before .before .before .before in
+    let l = passing p in
+    (walk-fails (numbered l) (walking l) (more (p .before .before .before .before .before)) (fault-is p) (c .if1 .taken) ∙ ap (failed (p .pass .result)) (sym (add-one (l .loop .i))) ∙ sym (answer-fails _ _ _ _ (c .if1 .taken)), (λ z. absurd (c .if1 .taken z))))
+    (λ c.
+    let p = c .before .before .before .before .before .before in
+    let l = passing p in
+    omega (arith, put-long l (row-left p) (row-long p), room l, some-name (begun l .args .names .now) (numbered l .named)))
+    (λ c κs. held-at (numbered (passing (c .before .before .before .before .before .before))) (walking (passing (c .before .before .before .before .before .before))) (same-row (passing (c .before .before .before .before .before .before))) (place (c .before .before .before .before .before .before)) .stands)
+    (λ c. omega (arith, walking (passing (c .before .before .before .before .before .before .before)) .some, numbered (passing (c .before .before .before .before .before .before .before)) .most))
+    (λ c. let l = passing (c .before .before .before .before .before .before .before) in omega (arith, count l, walking l .some))
+    (λ c.
+    let p = c .before .before .before .before .before .before .before in
+    let l = passing p in
+    let m = more (p .before .before .before .before .before) in
+    let z = c .before .before .if1 .left in
+    (walking-same (wanted-is p m z) (put-width (length (begun l .args .names .now)) (l .loop .i) (l .loop .store) (row-left p) ∙ ap (putMid (l .loop .i * length (begun l .args .names .now)) (length (begun l .args .names .now)) (l .loop .store)) (row-is p m z)) (any-is p m z) (add-one (l .loop .i)) (walk-next (numbered l) (walking l) m (fault-is p) z (c .lower .ensures ∙ after-at (numbered l) (walking l) (same-row l) (place p))), wanted-long p ∙ l .loop .inv .1, put-long l (row-left p) (row-long p) ∙ l .loop .inv .2))
+    (λ c. omega (arith, walking (c .before) .some, numbered (c .before) .most))
+    (λ c. fits (c .before .before))
+    (λ c κs. search needs)
+    (λ c. omega (arith, room (c .before .before .before)))
+    (λ c. omega (arith, room (c .before .before .before)))
+    (λ c. search needs)
+    (λ c. omega arith)
+    (λ c. omega (arith, room (c .before .before .before .before)))
+    (λ c κs.
+    let l = c .before .before .before .before .before in
+    let u = begun l .args .names .now in
+    let n = ap length (same-row l) ∙ row-length (numbered l) (walking l) in
+    (held-at (numbered l) (walking l) (same-row l) (c .before .before .wide2 .ensures), (walking l .wide ∙ sym n, omega (arith, n, begun l .pre .1 .0))))
+    (λ c κs. let e = c .before .before in head-room _ _ (held-at (numbered (ending e)) (walking (ending e)) (same-row (ending e)) (place-last e) .stands) 3 (omega arith))
+    (λ c κs. search needs)
+    (λ c. let l = ending (c .before .before .before .before) in omega (arith, walking l .some, numbered l .most))
+    (λ c. let l = ending (c .before .before .before .before) in omega (arith, walking l .some, numbered l .most))
+    (λ c. let l = ending (c .before .before .before .before) in l .loop .inv .1 ∙ length-set (begun l .args .expected .now) 0 1)
+    (λ c. let e = c .before .before .before .before in put-long (ending e) (last-left e) (last-long e) ∙ ending e .loop .inv .2)
     returns-2)

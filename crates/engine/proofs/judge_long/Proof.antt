@@ -1,0 +1,21 @@
+-- `judge_long` meets its contract: the tables are new.
+use mathlib.Core.Path.{refl}
+use native.Mathlib.Omega.{arith}
+use borrow.Author.Needs.{needs}
+use Rattle.record.specs.Record.{most-places}
+use Rattle.engine.proofs.Zeros.{clear-zeros}
+use Rattle.engine.proofs.judge_long.Statement.{statement}
+use Rattle.engine.proofs.judge_long.Tie as tie
+
+pub judge-long-spec : {M : Type 1} → statement M
+judge-long-spec =
+    tie.close
+    (tie.spec
+    (λ c. search needs)
+    (λ c. search needs)
+    (λ c. search needs)
+    (λ c κs. let s = c .before .before .before .before .before .before .before .before .before in (s .pre .0, (s .pre .1 .0, (refl, (omega arith, (omega arith, (clear-zeros most-places, (clear-zeros 4096, s .pre .1 .1))))))))
+    (λ c. search needs)
+    (λ c. search needs)
+    (λ c. search needs)
+    (λ c. c .before .before .before .before .before .before .before .before .before .judge-record .ensures))
