@@ -15,8 +15,8 @@ pub const NEAR_SLOTS: usize = 64;
 
 pub const FAR_SLOTS: usize = 4096;
 
-// A policy's place, as an index.
-fn wide(k: u16) -> usize
+// A place, as an index.
+pub fn wide(k: u16) -> usize
     ensures { λ r. ⌜ r ≡ k ⌝ }
 {
     k as usize

@@ -13,6 +13,7 @@ ghost use Rattle.places.specs.Numbered.{Numbered};
 ghost use Rattle.rows.specs.Read.{Small, inherited-of};
 ghost use Rattle.rows.specs.Store.{Clear};
 ghost use Rattle.prune.specs.Pruned.{deepest, above, authority-left};
+use names::wide;
 use record::N;
 use record::count_at;
 use record::issuers_at;
@@ -24,12 +25,6 @@ use rows::mark;
 use rows::parents;
 use rows::size;
 use rules::DEPTHS;
-
-fn wide(k: u16) -> usize
-    ensures { λ r. ⌜ r ≡ k ⌝ }
-{
-    k as usize
-}
 
 // 1 where a depth has a node: the root stands where depth 1 has one.
 fn root(nodes: u16) -> u16

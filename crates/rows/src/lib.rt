@@ -9,6 +9,7 @@ ghost use Rattle.rules.specs.Sets.{pick, _∈_};
 ghost use Rattle.rows.specs.Row as spec;
 ghost use Rattle.rows.specs.Row.{found};
 ghost use Rattle.names.specs.Places.{at, Within, Pairs};
+use names::wide;
 
 // No node; a node that some node above expects; a node whose only parent is the anyPolicy node.
 pub const ABSENT: u8 = 0;
@@ -19,13 +20,6 @@ pub const UNDER_ANY: u8 = 2;
 
 // anyPolicy's place.
 pub const ANY: usize = 0;
-
-// A policy's place, as an index.
-fn wide(k: u16) -> usize
-    ensures { λ r. ⌜ r ≡ k ⌝ }
-{
-    k as usize
-}
 
 // `x` where the test holds, else `y`.
 fn choose(test: bool, x: u8, y: u8) -> u8

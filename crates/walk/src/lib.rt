@@ -23,6 +23,7 @@ use counters::Counters;
 use counters::after;
 use counters::explicit_at_end;
 use counters::start;
+use names::wide;
 use record::ANY_INHIBIT;
 use record::EXPLICIT_POLICY;
 use record::INHIBIT_ANY;
@@ -186,12 +187,6 @@ fn begin(rec: &[u16]) -> Counters
         flag_at(rec, 0, ANY_INHIBIT),
         count_at(rec, 0, N),
     )
-}
-
-fn wide(k: u16) -> usize
-    ensures { λ r. ⌜ r ≡ k ⌝ }
-{
-    k as usize
 }
 
 // From the anyPolicy node at depth 0 to certificate n. The row of certificate i + 1 stands from place i * u of `store` on, where there are u names.
