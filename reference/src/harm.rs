@@ -75,7 +75,7 @@ impl fmt::Display for Names {
     }
 }
 
-/// A kind of path made to harm. All but `SmallSlot` have the longest sheet:
+/// A kind of path made to harm. All but `SmallSlot` and `ShortSlot` have the longest sheet:
 /// ten certificates with 16 policies, 16 pairs and all skip values each.
 #[derive(Clone, Copy, Debug, PartialEq, Eq)]
 pub enum Harm {
@@ -84,6 +84,9 @@ pub enum Harm {
     /// Three certificates with four policies each, mapped one to one, whose
     /// policies share a slot of the small table.
     SmallSlot,
+    /// One certificate and a user list with 43 policies that share a slot of
+    /// the small table: as many as a sheet that still takes it can name.
+    ShortSlot,
     /// anyPolicy and 15 fresh policies in each certificate, and 16 fresh
     /// issuers mapped to 16 fresh subjects: each depth is as wide as can be.
     Growth(Names),
@@ -98,9 +101,10 @@ pub enum Harm {
 }
 
 /// All kinds, with all names.
-pub const HARMS: [Harm; 12] = [
+pub const HARMS: [Harm; 13] = [
     Harm::OneSlot,
     Harm::SmallSlot,
+    Harm::ShortSlot,
     Harm::Growth(Names::Ascending),
     Harm::Growth(Names::Descending),
     Harm::Growth(Names::Drawn),
@@ -119,6 +123,7 @@ impl Harm {
         match self {
             Harm::OneSlot => chains(&sharing(SLOT, LARGE_TABLE).repeat(32), |_| 0),
             Harm::SmallSlot => small_chains(&sharing(SLOT, SMALL_TABLE)),
+            Harm::ShortSlot => short(&sharing(SLOT, SMALL_TABLE)),
             Harm::Growth(names) => growth(&names.take(random)),
             Harm::Chains(names) => chains(&names.take(random), |_| 0),
             Harm::Falling => chains(&Names::Ascending.take(random), |place| place),
@@ -140,6 +145,7 @@ impl fmt::Display for Harm {
         match self {
             Harm::OneSlot => to.write_str("chains, one slot"),
             Harm::SmallSlot => to.write_str("3 x 4, one slot"),
+            Harm::ShortSlot => to.write_str("1 x 16, one slot"),
             Harm::Growth(names) => write!(to, "growth, {names}"),
             Harm::Chains(names) => write!(to, "chains, {names}"),
             Harm::Falling => to.write_str("chains that end one by one"),
@@ -199,6 +205,16 @@ fn small_chains(names: &[u16]) -> Path {
     everyday::mapped(&lists)
 }
 
+/// The path of `ShortSlot`: the user list's first policy is listed, and the
+/// pairs, of a last certificate, name six issuers and six subjects.
+fn short(names: &[u16]) -> Path {
+    let (issuers, subjects) = names[31..43].split_at(6);
+    let policies = names[..16].to_vec();
+    let mappings = pairs(issuers, subjects);
+    let certificate = Certificate { policies, mappings, ..Certificate::default() };
+    explicit(names[15..31].to_vec(), vec![certificate])
+}
+
 #[cfg(test)]
 mod tests {
     use super::*;
@@ -233,13 +249,14 @@ mod tests {
     }
 
     #[test]
-    fn every_sheet_is_legal_and_all_but_the_small_one_are_the_longest() {
+    fn every_sheet_is_legal_and_all_but_the_small_ones_are_the_longest() {
         for kind in HARMS {
             let path = path(kind);
             let sheet = sheet::write(&path);
             assert_eq!(sheet::read(&sheet), Ok(path.clone()), "{kind}");
             let longest = sheet.len() == sheet::LONGEST;
-            assert_eq!(longest, kind != Harm::SmallSlot, "{kind}");
+            let short = matches!(kind, Harm::SmallSlot | Harm::ShortSlot);
+            assert_eq!(longest, !short, "{kind}");
         }
     }
 
@@ -273,6 +290,9 @@ mod tests {
         let small = path(Harm::SmallSlot);
         assert_eq!((small.certificates.len(), distinct(&small).len()), (3, 12));
         assert!(policies(&small).iter().all(|&policy| slot(policy, SMALL_TABLE) == SLOT));
+        let short = path(Harm::ShortSlot);
+        assert_eq!((short.certificates.len(), distinct(&short).len()), (1, 43));
+        assert!(policies(&short).iter().all(|&policy| slot(policy, SMALL_TABLE) == SLOT));
     }
 
     #[test]

@@ -14,7 +14,8 @@ ghost use Rattle.record.specs.Unpacked.{unpacked};
 ghost use Rattle.places.specs.Mapped.{path-named};
 ghost use Rattle.places.specs.Numbered.{Numbered, Lent};
 
-// Numbers the policies of a record, over new tables; `starts` gets the place of each certificate. Says how many names there are.
+// Numbers the policies of a record, over new tables; `starts` gets the place of each certificate. Says how many names there are. What `links` and
+// `heads` hold afterwards, and `names` past them, is left free.
 pub fn number_record(
     rec: &mut [u16],
     starts: &mut [u16],

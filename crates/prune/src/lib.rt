@@ -34,6 +34,7 @@ fn root(nodes: u16) -> u16
 }
 
 // From the last row up: childless nodes go, and `counts` gets what is left. `marks` gets the authority set; `spare` is for the parents.
+// What `spare` and the rows of `store` hold afterwards is left free.
 pub fn prune(
     rec: &[u16],
     starts: &[u16],

@@ -190,6 +190,7 @@ fn begin(rec: &[u16]) -> Counters
 }
 
 // From the anyPolicy node at depth 0 to certificate n. The row of certificate i + 1 stands from place i * u of `store` on, where there are u names.
+// `expected` is scratch room: what it holds afterwards, and after a fault the rows too, is left free.
 pub fn walk(
     rec: &[u16],
     starts: &[u16],
