@@ -28,18 +28,22 @@ marks-left p = p .prune .last .1 .1 .1 .1 .1 .0
 authority-is : (p : tie.After-prune) → inherited-of (start p .args .names .now) (marks-left p) ≡ found (start p .args .rec .now) (start p .args .names .now) (start p .args .store .now) (start p .args .explicit)
 authority-is p = p .prune .ensures .1
 
-users-are : (c : tie.After-users) → now (c .users .result) ≡ unpacked (start (c .before .before .before .before .before .before .before) .args .rec .now) .user-list
+-- the pruning before the user list is read
+abbrev pruned : tie.After-users → tie.After-prune
+pruned c = c .before .before .before .before .before .before .before
+
+users-are : (c : tie.After-users) → now (c .users .result) ≡ unpacked (start (pruned c) .args .rec .now) .user-list
 users-are c = c .users .ensures
 
-user-is : (c : tie.After-users) → user-of (map (at (start (c .before .before .before .before .before .before .before) .args .names .now)) (now (c .users .result))) (inherited-of (start (c .before .before .before .before .before .before .before) .args .names .now) (marks-left (c .before .before .before .before .before .before .before)))
-    ≡ chosen (start (c .before .before .before .before .before .before .before) .args .rec .now) (start (c .before .before .before .before .before .before .before) .args .names .now) (start (c .before .before .before .before .before .before .before) .args .store .now) (start (c .before .before .before .before .before .before .before) .args .explicit)
-user-is c = ap₂ (λ us A. user-of (map (at (start (c .before .before .before .before .before .before .before) .args .names .now)) us) A) (users-are c) (authority-is (c .before .before .before .before .before .before .before))
+user-is : (c : tie.After-users) → let a = start (pruned c) .args in
+    user-of (map (at (a .names .now)) (now (c .users .result))) (inherited-of (a .names .now) (marks-left (pruned c))) ≡ chosen (a .rec .now) (a .names .now) (a .store .now) (a .explicit)
+user-is c = ap₂ (λ us A. user-of (map (at (start (pruned c) .args .names .now)) us) A) (users-are c) (authority-is (pruned c))
 
 returns : tie.Need-returns
 returns c =
-    let p = c .before .before .before .before .before .before .before .before .before .before .before .before .before .before .before .before .before .before .before .before in
-    let u = c .before .before .before .before .before .before .before .before .before .before .before .before .before in
     let f = c .before .before .before .before .before .before .before .before in
+    let u = f .before .before .before .before .before in
+    let p = pruned u in
     let a = start p .args in
     conclusion (a .rec .now) (a .names .now) (a .store .now) (a .explicit) (a .authority .now) (a .user .now)
     (c .ending .ensures ∙ λ i. ended (eqb (a .explicit) 0 && eqb ((f .fill-sets .ensures .0 ∙ ap length (user-is u)) i) 0) (c .before .count-at .ensures i) (p .prune .ensures .0 i))
@@ -55,14 +59,14 @@ concluded-spec =
     (s .pre .0 .numbered, (s .pre .0 .few, (s .pre .1 .0, (s .pre .0 .room, (s .pre .0 .small, (s .pre .1 .1 .0 .wide, (s .pre .1 .1 .0 .clear, refl))))))))
     (λ c κs. search needs)
     (λ c κs.
-    let p = c .before .before .before .before .before .before .before .before .before .before .before in
     let u = c .before .before .before .before in
+    let p = pruned u in
     let s = start p in
     let same : length (marks-left p) ≡ length (s .args .marks .now) = search needs in
     let fits = ap length (authority-is p ∙ sym (concluded-authority (s .args .rec .now) (s .args .names .now) (s .args .store .now) (s .args .explicit))) in
     (s .pre .0 .numbered .named, (subst⁻¹ (Within (length (s .args .names .now))) (users-are u) (s .pre .0 .numbered .users), (omega (arith, ap length (users-are u), users-few (s .pre .0 .numbered)), (same ∙ s .pre .1 .1 .0 .wide, (omega (arith, fits, s .pre .0 .fits), (s .pre .1 .1 .1 .0, (s .pre .1 .1 .1 .1 .0, s .pre .1 .1 .1 .1 .1))))))))
-    (λ c κs. omega (arith, start (c .before .before .before .before .before .before .before .before .before .before .before .before .before .before .before .before .before .before) .pre .0 .numbered .head))
-    (λ c κs. omega (arith, c .count-at .ensures, start (c .before .before .before .before .before .before .before .before .before .before .before .before .before .before .before .before .before .before .before) .pre .0 .numbered .most))
+    (λ c κs. omega (arith, start (pruned (c .before .before .before .before .before .before .before .before .before .before .before)) .pre .0 .numbered .head))
+    (λ c κs. omega (arith, c .count-at .ensures, start (pruned (c .before .before .before .before .before .before .before .before .before .before .before .before)) .pre .0 .numbered .most))
     (λ c. search needs)
     (λ c. search needs)
     (λ c. search needs)

@@ -62,6 +62,13 @@ module _ (n : tie.After-number-record) (ns : List ℕ) (e : ns ≡ named n) wher
   judged-same : judged (path-named ns (rec-left n)) ≡ judged (unpacked (start n .args .rec .now))
   judged-same = ap (λ xs. judged (path-named xs (rec-left n))) e ∙ ap judged (same-path n)
 
+-- the numbering before the record is judged, in either branch
+abbrev numbered-near : tie.After-members → tie.After-number-record
+numbered-near m = m .before .before .before .before .before .before .before .before .before .before .before .before .before .before .before .before .before
+
+abbrev numbered-far : tie.After-members2 → tie.After-number-record
+numbered-far m = m .before .before .before .before .before .before .before .before .before .before .before .before .before .before .before .before .before
+
 count : (c : tie.After-count-at) → c .count-at .result ≡ at (rec-left (c .before .before .before .before .before .before .before .before .before .before .before)) 0
 count c = c .count-at .ensures
 
@@ -90,8 +97,8 @@ judge-record-spec =
     (λ c. search needs)
     (λ c κs. lent (c .before .before .before .before .before .before .before .before .before .before .before .before .before .before .before .before))
     (λ c κs.
-    let n = c .before .before .before .before .before .before .before .before .before .before .before .before .before .before .before .before .before .before .before in
     let m = c .before .before in
+    let n = numbered-near m in
     let small = c .before .before .before .before .before .before .before .near .ensures (c .before .before .before .before .before .before .if1 .taken) in
     let u = few n (now (m .members .result)) (m .members .ensures) in
     let rows : at (rec-left n) 0 * length (now (m .members .result)) ≡ c .before .before .before .before .before .before .before .before .count-at .result * n .number-record .result = ap₂ _*_ (sym (count (c .before .before .before .before .before .before .before .before))) u in
@@ -99,8 +106,8 @@ judge-record-spec =
     (λ c. search needs)
     (λ c κs. lent (c .before .before .before .before .before .before .before .before .before .before .before .before .before .before .before .before))
     (λ c κs.
-    let n = c .before .before .before .before .before .before .before .before .before .before .before .before .before .before .before .before .before .before .before in
     let m = c .before .before in
+    let n = numbered-far m in
     (ready n (now (m .members2 .result)) (m .members2 .ensures), (omega (arith, few n (now (m .members2 .result)) (m .members2 .ensures), n .number-record .ensures .0, start n .pre .1 .1 .1 .0), start n .pre .1 .1 .1 .1 .1 .1 .1)))
     (λ c. search needs)
     (λ c. search needs)
@@ -109,8 +116,8 @@ judge-record-spec =
     (λ c. search needs)
     (λ c. search needs)
     (λ c.
-    let n = c .before .before .before .before .before .before .before .before .before .before .before .before .before .before .before .before .before .before .before .before .before .before .before .before in
     let m = c .before .before .before .before .before .before .before in
+    let n = numbered-near m in
     c .before .before .before .before .judge-near .ensures ∙ ap (λ a. verdict a (start n .args .authority .now) (start n .args .user .now)) (judged-same n (now (m .members .result)) (m .members .ensures)))
     (λ c. search needs)
     (λ c. search needs)
@@ -119,6 +126,6 @@ judge-record-spec =
     (λ c. search needs)
     (λ c. search needs)
     (λ c.
-    let n = c .before .before .before .before .before .before .before .before .before .before .before .before .before .before .before .before .before .before .before .before .before .before .before .before in
     let m = c .before .before .before .before .before .before .before in
+    let n = numbered-far m in
     c .before .before .before .before .judge-far .ensures ∙ ap (λ a. verdict a (start n .args .authority .now) (start n .args .user .now)) (judged-same n (now (m .members2 .result)) (m .members2 .ensures))))
