@@ -84,7 +84,7 @@ pub enum Harm {
     /// Three certificates with four policies each, mapped one to one, whose
     /// policies share a slot of the small table.
     SmallSlot,
-    /// One certificate and a user list with 43 policies that share a slot of
+    /// One certificate and a user list with 24 policies that share a slot of
     /// the small table: as many as a sheet that still takes it can name.
     ShortSlot,
     /// anyPolicy and 15 fresh policies in each certificate, and 16 fresh
@@ -206,13 +206,13 @@ fn small_chains(names: &[u16]) -> Path {
 }
 
 /// The path of `ShortSlot`: the user list's first policy is listed, and the
-/// pairs, of a last certificate, name six issuers and six subjects.
+/// pairs, of a last certificate, name two issuers and two subjects.
 fn short(names: &[u16]) -> Path {
-    let (issuers, subjects) = names[31..43].split_at(6);
+    let (issuers, subjects) = names[20..24].split_at(2);
     let policies = names[..16].to_vec();
     let mappings = pairs(issuers, subjects);
     let certificate = Certificate { policies, mappings, ..Certificate::default() };
-    explicit(names[15..31].to_vec(), vec![certificate])
+    explicit(names[15..20].to_vec(), vec![certificate])
 }
 
 #[cfg(test)]
@@ -291,7 +291,7 @@ mod tests {
         assert_eq!((small.certificates.len(), distinct(&small).len()), (3, 12));
         assert!(policies(&small).iter().all(|&policy| slot(policy, SMALL_TABLE) == SLOT));
         let short = path(Harm::ShortSlot);
-        assert_eq!((short.certificates.len(), distinct(&short).len()), (1, 43));
+        assert_eq!((short.certificates.len(), distinct(&short).len()), (1, 24));
         assert!(policies(&short).iter().all(|&policy| slot(policy, SMALL_TABLE) == SLOT));
     }
 

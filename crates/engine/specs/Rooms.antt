@@ -17,7 +17,7 @@ use Rattle.walk.specs.Walking.{concluded-of}
 
 -- the most places of a record, names of a row, and places of all rows together that the small arrays hold
 abbrev pub near-record : ℕ
-near-record = 56
+near-record = 36
 
 abbrev pub near-row : ℕ
 near-row = 64

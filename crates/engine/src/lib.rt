@@ -44,7 +44,7 @@ use walk::walk;
 // A record of at most this many places, a row of at most this many names, and rows that have at most this many places together, take
 // the small arrays: to clear the large ones would cost an everyday path more than to judge it. Where the policies of a short record
 // all share a slot, the search for them still costs less than a plain judge.
-const NEAR_RECORD: usize = 56;
+const NEAR_RECORD: usize = 36;
 
 const NEAR_ROW: usize = 64;
 
