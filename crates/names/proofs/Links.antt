@@ -6,7 +6,7 @@ use mathlib.Core.Path.{_≡_, refl, sym, ap, _∙_, subst}
 use native.Mathlib.Omega.{arith}
 use native.Mathlib.Numerals.{add-one}
 use lib.Dec.{eqb}
-use lib.ListN.{length, getD, take, set, replicate, length-set, length-replicate, getD-replicate}
+use lib.ListN.{length, getD, take, set, length-set}
 use lib.Seq.{getD-set-same, getD-set-other, take-suc-set, length-take-le}
 use borrow.Author.Tests.{eqb-true, eqb-false}
 use Rattle.rules.specs.Paths.{any}
@@ -111,13 +111,3 @@ linked-first (x ∷ names) links heads n l h a z e =
     links-none : Links (x ∷ names) links 1 (length heads)
     links-none zero i = z ∙ sym (last-none (in-slot (x ∷ names) (length heads) (slot (length heads) x)))
     links-none (suc k) i = absurd (omega (arith, i))
-
--- and so new arrays with anyPolicy put first
-pub linked-new : (a b n : ℕ) → 0 < a → 0 < b → 64 ≤ n → Linked (set (replicate a 0) 0 any) (replicate b 0) (replicate n 0) 1
-linked-new a b n h i j =
-    let na = length-replicate {A = ℕ} a 0 in
-    let nb = length-replicate {A = ℕ} b 0 in
-    let nn = length-replicate {A = ℕ} n 0 in
-    linked-first (set (replicate a 0) 0 any) (replicate b 0) (replicate n 0)
-    (omega (arith, h, na, length-set (replicate a 0) 0 any)) (omega (arith, i, nb)) (omega (arith, j, nn))
-    (getD-set-same (replicate a 0) 0 any 0 (omega (arith, h, na))) (getD-replicate b 0 0 0 i) (λ s l. getD-replicate n s 0 0 (omega (arith, l, nn)))

@@ -8,7 +8,6 @@ use lib.Dec.{eqb, ltb}
 use lib.ListN.{length, getD}
 use borrow.Author.Tests.{eq-eqb, ne-eqb, eqb-true, eqb-false, ltb-true, ltb-false}
 use Rattle.rules.specs.Sets.{pick, _∈_}
-use Rattle.rules.specs.Paths.{any}
 use Rattle.laws.proofs.Sets.{by-cases, agree, is-false, clash, Unique}
 use Rattle.names.specs.Names.{place, Once}
 
@@ -98,27 +97,6 @@ same-place p q xs h =
     (λ e. eq-eqb p q
     (let s = eqb-true (place p xs) (place q xs) e in
     sym (at-place p xs (placed-under p xs h)) ∙ ap (λ k. getD xs k 0) s ∙ at-place q xs (omega (arith, s, placed-under p xs h))))
-
-place-first : (p : ℕ) (xs : List ℕ) → 0 < length xs → getD xs 0 0 ≡ p → place p xs ≡ 0
-place-first p [] h e = absurd (omega (arith, h))
-place-first p (x ∷ xs) h e = place-here p x xs e
-
--- anyPolicy exactly has place 0
-pub place-any : (p : ℕ) (xs : List ℕ) → 0 < length xs → getD xs 0 0 ≡ any → eqb p any ≡ eqb (place p xs) 0
-place-any p xs h e =
-    let z = place-first any xs h e in
-    agree
-    (λ l. eq-eqb _ _ (ap (λ r. place r xs) (eqb-true p any l) ∙ z))
-    (λ l. eq-eqb p any
-    (let s = eqb-true (place p xs) 0 l in
-    sym (at-place p xs (omega (arith, s, h))) ∙ ap (λ k. getD xs k 0) s ∙ e))
-
--- two places of names that come once have the same name exactly where they are the same
-pub same-name : (xs : List ℕ) (i j : ℕ) → Once xs → i < length xs → j < length xs → eqb i j ≡ eqb (getD xs i 0) (getD xs j 0)
-same-name xs i j u hi hj =
-    agree
-    (λ e. eq-eqb _ _ (ap (λ k. getD xs k 0) (eqb-true i j e)))
-    (λ e. eq-eqb i j (sym (u i hi) ∙ ap (λ p. place p xs) (eqb-true (getD xs i 0) (getD xs j 0) e) ∙ u j hj))
 
 -- the names that come once have no repeats
 pub once-unique : (xs : List ℕ) → Once xs → Unique xs

@@ -8,7 +8,7 @@ use lib.Dec.{eqb}
 use lib.ListN.{length, set}
 use borrow.Author.Tests.{ne-eqb}
 use Rattle.rules.specs.Sets.{pick, _∈_, empty, insert, ascending}
-use Rattle.laws.proofs.Sets.{eqb-same, mem-insert, or-false, by-cases, is-false, clash, or-right, or-left, Unique, mem-ascending, mem-append, sorted-ascending, sorted-same, ascending-same, length-ascending, empty-mem}
+use Rattle.laws.proofs.Sets.{eqb-same, mem-insert, or-false, by-cases, is-false, clash, or-right, or-left, Unique, mem-ascending, mem-append, sorted-ascending, sorted-same, length-ascending, empty-mem}
 use Rattle.levels.proofs.Levels as Levels
 use Rattle.rows.specs.Row as spec
 use Rattle.rows.specs.Row.{found, tally, sweep}
@@ -107,15 +107,6 @@ module _ (names : List ℕ) (N : Names names) (row : List ℕ) (l : length row �
       one : (b : Bool) (x : ℕ) → eqb (pick b 1 x) 1 ≡ (eqb x 1 || b)
       one true x = sym (or-right (eqb x 1) refl)
       one false x = sym (or-false (eqb x 1))
-
-  -- so the marks, from zeros, are those of the authority set that are under anyPolicy, row by row
-  pub mark-more : (marks xs : List ℕ) → length marks ≡ length names → inherited-of names marks ≡ ascending xs
-      → inherited-of names (spec.mark (length row) row marks) ≡ ascending (xs ++ under-of names row)
-  unfolding Levels.union
-  mark-more marks xs lm e =
-      mark-is marks lm
-      ∙ ascending-same (inherited-of names marks ++ under-of names row) (xs ++ under-of names row) (λ p.
-      mem-append p (inherited-of names marks) (under-of names row) ∙ ap (λ b. b || p ∈ under-of names row) (ap (λ ys. p ∈ ys) e ∙ mem-ascending p xs) ∙ sym (mem-append p xs (under-of names row)))
 
   pub mark-start : ((k : ℕ) → at row k ≡ 0) → inherited-of names row ≡ ascending []
   unfolding _∈_

@@ -58,9 +58,6 @@ module _ (s ys : List ℕ) (u i : ℕ) (h : i * u + u ≤ length s) (l : length 
   before-put : take (i * u) (putMid (i * u) u s ys) ≡ take (i * u) s
   before-put = take-put (i * u) u s ys (omega arith)
 
-  pub row-before-put : (j : ℕ) → j < i → row (putMid (i * u) u s ys) u j ≡ row s u j
-  row-before-put j b = row-same (putMid (i * u) u s ys) s u i j b before-put
-
   pub length-put : length (putMid (i * u) u s ys) ≡ length s
   length-put = same-len-mid (i * u) u s ys (l ∙ sym (length-row s u i h))
 
