@@ -14,7 +14,7 @@ use Rattle.record.specs.Puts.{Stands}
 use Rattle.record.specs.Unpacked.{unpacked}
 use Rattle.record.proofs.Stands.{path-stands}
 use Rattle.record.proofs.Unpacked.{stands-back}
-use Rattle.record.proofs.Whole.{packed-most}
+use Rattle.pack.proofs.Whole.{packed-most}
 use Rattle.graph.proofs.Fits.{some, most, few-users, authority-fits, same}
 use Rattle.graph.proofs.judge.Statement.{statement}
 use Rattle.graph.proofs.judge.Tie as tie
