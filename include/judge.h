@@ -10,10 +10,11 @@
 #include <stddef.h>
 #include <stdint.h>
 
-/* The places that a lent table needs, the depth counts, and the bytes that the writer's buffer needs. */
+/* The places that a lent table needs, the depth counts, the bytes that the writer's buffer needs, and the places of the longest record. */
 #define SKANDRULO_TABLE 304
 #define SKANDRULO_DEPTHS 11
 #define SKANDRULO_SHEET_BYTES 1044
+#define SKANDRULO_RECORD 561
 
 /* Judges a sheet. Returns the number of document 01's table plus 256 times the place.
  *
@@ -32,5 +33,69 @@ uint32_t skandrulo_judge_sheet(const uint8_t *sheet, size_t sheet_len, uint16_t 
  * the sheet first, the same bytes that came in, and is as it was beyond them.
  */
 uint32_t skandrulo_rewrite_sheet(const uint8_t *sheet, size_t sheet_len, uint8_t *buffer, size_t buffer_len);
+
+/* A record: a path as numbers one after the other, with no unused places between them.
+ *
+ *     n, the certificates                  1 to 10
+ *     mapping inhibit                      0 or 1
+ *     explicit policy                      0 or 1
+ *     anyPolicy inhibit                    0 or 1
+ *     the number of user policies          0 to 16
+ *     the user policies
+ *     for each certificate, from the one that the trust anchor issued:
+ *         self-issued                      0 or 1
+ *         the number of its policies       0 to 16, 0 being absence
+ *         the number of its mapping pairs  0 to 16, 0 being absence
+ *         requireExplicitPolicy            0 if absent, else the value and 1
+ *         inhibitPolicyMapping             0 if absent, else the value and 1
+ *         inhibitAnyPolicy                 0 if absent, else the value and 1
+ *         its policies
+ *         the issuer policies of its pairs
+ *         their subject policies, in the same order
+ *
+ * Any numbers may stand in a record that is handed over. A flag that is not 0 is set, a skip value above 255 counts as 255, and
+ * numbers after the record never matter. The refusals come in the sheet's field order: 3 where n or a count is out of its limits or the
+ * record is too short for a head or for what a count says, 4 where a policy is 0, 5 where a policy repeats within one certificate's
+ * policies.
+ */
+
+/* The places of a record's head, and of a certificate's, counted from its own start; the lists follow the head. */
+enum {
+    SKANDRULO_N,
+    SKANDRULO_MAPPING_INHIBIT,
+    SKANDRULO_EXPLICIT_POLICY,
+    SKANDRULO_ANY_POLICY_INHIBIT,
+    SKANDRULO_USERS,
+    SKANDRULO_HEAD
+};
+enum {
+    SKANDRULO_SELF_ISSUED,
+    SKANDRULO_POLICIES,
+    SKANDRULO_PAIRS,
+    SKANDRULO_REQUIRE_EXPLICIT_POLICY,
+    SKANDRULO_INHIBIT_POLICY_MAPPING,
+    SKANDRULO_INHIBIT_ANY_POLICY,
+    SKANDRULO_CERTIFICATE_HEAD
+};
+
+/* Judges the path of a record. The result and the three slices are those of skandrulo_judge_sheet on the path's sheet; the refusals are
+ * 7, and then 3, 4 and 5.
+ */
+uint32_t skandrulo_judge_record(const uint16_t *record, size_t record_len, uint16_t *authority, size_t authority_len,
+                                uint16_t *user, size_t user_len, uint16_t *counts, size_t counts_len);
+
+/* Writes the sheet of a record's path. Returns the refusal, or 256 times the sheet's length.
+ *
+ * 7, where `buffer` has fewer than SKANDRULO_SHEET_BYTES bytes, comes first; then 3, 4 and 5. After a refusal the buffer is as it was.
+ * Otherwise it holds the sheet first, and is as it was beyond it.
+ */
+uint32_t skandrulo_write_record(const uint16_t *record, size_t record_len, uint8_t *buffer, size_t buffer_len);
+
+/* Reads a sheet into the record of its path. Returns the refusal, or 256 times the number of places that the record takes.
+ *
+ * 7, where `record` has fewer than SKANDRULO_RECORD places, comes first; then 1 to 6. After a refusal the record is as it was. Otherwise
+ * it holds the path's record first, with flags of 0 and 1, and is as it was beyond it.
+ */
+uint32_t skandrulo_read_record(const uint8_t *sheet, size_t sheet_len, uint16_t *record, size_t record_len);
 
 #endif
