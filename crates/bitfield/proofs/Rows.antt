@@ -75,7 +75,12 @@ module _ (s : List ℕ) where
   pub byte-number : (b : ℕ) → getD s b 0 < 2 ^ 8 → number (bit s) (8 * b) 8 ≡ getD s b 0
   byte-number b h = number-digits (bit s) (8 * b) 8 (getD s b 0) (bit-in b) ∙ omega arith
 
-  -- the bits of three bytes
+  -- the bits of two bytes, and of three
+  pub word-number : (b : ℕ) → getD s b 0 < 2 ^ 8 → getD s (b + 1) 0 < 2 ^ 8 → number (bit s) (8 * b) 16 ≡ getD s b 0 * 256 + getD s (b + 1) 0
+  word-number b h₀ h₁ =
+      let one : 8 * b + 8 ≡ 8 * (b + 1) = omega arith in
+      omega (arith, number-append (bit s) (8 * b) 8 8, byte-number b h₀, ap (λ (k : ℕ). number (bit s) k 8) one ∙ byte-number (b + 1) h₁)
+
   pub window-number : (b : ℕ) → getD s b 0 < 2 ^ 8 → getD s (b + 1) 0 < 2 ^ 8 → getD s (b + 2) 0 < 2 ^ 8
       → number (bit s) (8 * b) window ≡ getD s b 0 * 65536 + getD s (b + 1) 0 * 256 + getD s (b + 2) 0
   window-number b h₀ h₁ h₂ =
@@ -99,6 +104,17 @@ module _ (s : List ℕ) where
       ap (λ (m : ℕ). number (bit s) (8 * (at / 8)) m / 2 ^ (n - (at % 8 + w)) % 2 ^ w) whole
       ∙ number-within (bit s) bit-below (8 * (at / 8)) (at % 8) w (n - (at % 8 + w))
       ∙ ap (λ (k : ℕ). number (bit s) k w) start
+
+  -- sixteen bits out of the window
+  pub window-word : (at x : ℕ) → x ≡ number (bit s) (8 * (at / 8)) window → x / 2 ^ (8 - at % 8) % 65536 ≡ field s at 16
+  window-word at x e =
+      let after : 8 - at % 8 ≡ window - (at % 8 + 16) = omega arith in
+      (λ i. e i / 2 ^ after i % 65536) ∙ field-within at 16 window (omega arith)
+
+  -- a field that starts with a byte
+  pub field-aligned : (at w : ℕ) → at % 8 ≡ 0 → number (bit s) (8 * (at / 8)) w ≡ field s at w
+  unfolding field
+  field-aligned at w h = let start : 8 * (at / 8) ≡ at = omega arith in ap (λ (k : ℕ). number (bit s) k w) start
 
   pub field-fits : (at w n : ℕ) → w ≤ n → field s at w < 2 ^ n
   unfolding field

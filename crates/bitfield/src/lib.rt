@@ -2,7 +2,7 @@
 ghost use mathlib.Core.Path.{_≡_};
 ghost use Prim.Native.Nat.{_+_, _*_, _/_, _%_, _^_, _≤_, _<_};
 ghost use lib.ListN.{length, getD};
-ghost use Rattle.rules.specs.Bits.{bit, number, put-field};
+ghost use Rattle.rules.specs.Bits.{bit, number, field, put-field};
 ghost use Rattle.bitfield.specs.Field.{field-at, window};
 
 // A field that was read, or that the slice ends inside or before it.
@@ -42,6 +42,35 @@ pub fn read_field(s: &[u8], at: usize, width: usize) -> Field
     }
     let bits = window_at(s, byte) >> (WINDOW - end);
     Field::Value((bits % (1 << width)) as u16)
+}
+
+// The sixteen bits from bit position `at` on, 0 past the end: one fetch for the small fields before a list, which are parts of them.
+pub fn peek(s: &[u8], at: usize) -> u16
+    ensures { λ r. ⌜ r ≡ field (now (s .entry)) at 16 ⌝ }
+{
+    let bits = window_at(s, at / 8) >> (8 - at % 8);
+    (bits % 65536) as u16
+}
+
+fn word(b: u8) -> u32
+    ensures { λ r. ⌜ (r ≡ b) × (r < 2 ^ 8) ⌝ }
+{
+    b as u32
+}
+
+// The field of sixteen bits at bit position `at`, all of it in the slice: each byte that it touches is fetched once.
+pub fn read_word(s: &[u8], at: usize) -> u16
+    requires { ⌜ at + 16 ≤ 8 * length (now s) ⌝ }
+    ensures { λ r. ⌜ r ≡ field (now (s .entry)) at 16 ⌝ }
+{
+    let i = at / 8;
+    let front = word(s[i]) * 256 + word(s[i + 1]);
+    let before = at % 8;
+    if before == 0 {
+        return front as u16;
+    }
+    let bits = (front * 256 + word(s[i + 2])) >> (8 - before);
+    (bits % 65536) as u16
 }
 
 fn wide(b: u8) -> u16
