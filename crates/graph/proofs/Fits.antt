@@ -1,30 +1,25 @@
--- A path without fault, as the engine asks for it: its counts are within the limits, and its authority set fits a table.
-use Prim.Native.Nat.{ℕ, _+_, _-_, _*_, _≤_}
+-- A path within the limits, as the engine asks for it: its authority set fits a table, and the model judges it as the graph does.
+use Prim.Native.Nat.{ℕ, zero, suc, _+_, _-_, _*_, _≤_, _<_}
 use native.Mathlib.Omega.{arith}
+use mathlib.Core.Bool.{false, true≢false}
 use mathlib.Core.List.{List, [], _∷_, map}
-use mathlib.Core.Path.{_≡_, sym, ap, _∙_, subst}
-use lib.ListN.{length, length-map, length-take, take}
-use lib.Seq.{length-take-le}
-use Rattle.rules.specs.declared.Certificate.{Certificate as StoredCertificate}
-use Rattle.rules.specs.declared.Path.{Path as StoredPath}
+use mathlib.Core.Path.{_≡_, refl, sym, ap, _∙_, subst}
+use lib.ListN.{length, length-map, take, getD}
 use Rattle.rules.specs.Limits as Limits
-use Rattle.rules.specs.Sets.{distinct}
-use Rattle.rules.specs.Paths.{Certificate, issuers}
-use Rattle.rules.specs.Layout.{pairs, certificate-of, path-of}
-use Rattle.rules.specs.Faults.{path-fault}
+use Rattle.rules.specs.Sets.{distinct, empty}
+use Rattle.rules.specs.Paths.{Certificate, Path, issuers}
 use Rattle.rules.specs.Graph as Graph
-use Rattle.laws.proofs.Sets.{In, here, there, In-map, pigeonhole, unique-distinct, mem-distinct}
+use Rattle.laws.proofs.Sets.{pigeonhole, unique-distinct, mem-distinct}
 use Rattle.agreement.proofs.Same.{WellFormed}
 use Rattle.agreement.proofs.Room.{authority-room, authority-bound}
 use Rattle.levels.proofs.Levels as Levels
 use Rattle.levels.proofs.Same.{levels-same}
-use Rattle.sheet.proofs.Faults.{n-passed, count-passed, path-parts}
-use Rattle.sheet.proofs.WellFormed.{decoded-well-formed}
-
--- a certificate's counts are within the limits
-pub record Few (c : Certificate) : Type 0 where
-  pub policies : length (c .policies) ≤ Limits.listed
-  pub mappings : length (c .mappings) ≤ Limits.listed
+use Rattle.record.specs.Record.{packed}
+use Rattle.record.specs.Puts.{Stands}
+use Rattle.record.specs.Unpacked.{unpacked}
+use Rattle.record.specs.Within.{Few, FewInCertificate}
+use Rattle.record.proofs.Unpacked.{stands-back}
+use Rattle.graph.specs.Sound.{Sound}
 
 few-issuers : (c : Certificate) → length (issuers c) ≤ length (c .mappings)
 unfolding issuers
@@ -32,57 +27,40 @@ few-issuers c =
     let ds = map (λ m. m .issuer) (c .mappings) in
     omega (arith, pigeonhole (distinct ds) ds (unique-distinct ds) (λ q e. sym (mem-distinct q ds) ∙ e), length-map (c .mappings) (λ m. m .issuer))
 
-few-pairs : (ds ss : List ℕ) → length (pairs ds ss) ≤ length ds
-unfolding pairs
-few-pairs [] ss = omega arith
-few-pairs (d ∷ ds) [] = omega arith
-few-pairs (d ∷ ds) (s ∷ ss) = omega (arith, few-pairs ds ss)
-
-stored-few : (c : StoredCertificate) → c .«policy_count» ≤ Limits.listed → c .«mapping_count» ≤ Limits.listed → Few (certificate-of c)
-unfolding certificate-of
-stored-few c h k =
-    record {
-      policies = omega (arith, length-take (c .«policy_count») (c .policies));
-      mappings = omega (arith, few-pairs (take (c .«mapping_count») (c .issuers)) (take (c .«mapping_count») (c .subjects)), length-take (c .«mapping_count») (c .issuers));
-    }
-
 -- "10 x 16 policies and 9 x 16 mapping issuers"
-room-most : (cs : List Certificate) → ((c : Certificate) → In c cs → Few c) → authority-room cs ≤ length cs * Limits.listed + (length cs - 1) * Limits.listed
+room-most : (d : Certificate) (cs : List Certificate) → ((i : ℕ) → i < length cs → FewInCertificate (getD cs i d)) → authority-room cs ≤ length cs * Limits.listed + (length cs - 1) * Limits.listed
 unfolding authority-room
-room-most [] h = omega arith
-room-most (c ∷ []) h = omega (arith, h c here .policies)
-room-most (c ∷ x ∷ cs) h = omega (arith, h c here .policies, h c here .mappings, few-issuers c, room-most (x ∷ cs) (λ y i. h y (there i)))
+room-most d [] h = omega arith
+room-most d (c ∷ []) h = omega (arith, h 0 (omega arith) .policies)
+room-most d (c ∷ x ∷ cs) h =
+    let one = h 0 (omega arith) in
+    omega (arith, one .policies, one .mappings, few-issuers c, room-most d (x ∷ cs) (λ i l. h (suc i) (omega arith)))
 
-module _ (p : StoredPath) (all : length (p .certificates) ≡ Limits.certificates) (e : path-fault p ≡ 0) where
-  counted : (1 ≤ p .«certificate_count») × (p .«certificate_count» ≤ Limits.certificates)
-  counted = n-passed (p .«certificate_count») (path-parts p e .certificate-count)
+some-of : (cs : List Certificate) → empty cs ≡ false → 1 ≤ length cs
+unfolding empty
+some-of [] e = absurd (true≢false e)
+some-of (c ∷ cs) e = omega arith
 
-  pub count : length (path-of p .certificates) ≡ p .«certificate_count»
-  unfolding path-of
-  count = length-map (take (p .«certificate_count») (p .certificates)) certificate-of ∙ length-take-le (p .«certificate_count») (p .certificates) (omega (arith, counted .1))
+module _ (p : Path) (few : Few p) (well-formed : WellFormed p) where
+  pub some : 1 ≤ length (p .certificates)
+  some = some-of (p .certificates) (well-formed .some-certificate)
 
-  pub some : 1 ≤ length (path-of p .certificates)
-  some = omega (arith, count, counted .0)
+  pub same : Levels.judged p ≡ Graph.judged p
+  same = levels-same p well-formed
 
-  pub most : length (path-of p .certificates) ≤ Limits.certificates
-  most = omega (arith, count, counted .1)
+  room : (cs : List Certificate) → p .certificates ≡ cs → authority-room cs ≤ length cs * Limits.listed + (length cs - 1) * Limits.listed
+  unfolding authority-room
+  room [] e = omega arith
+  room (d ∷ cs) e = room-most d (d ∷ cs) (λ i h. subst (λ xs. FewInCertificate (getD xs i d)) e (few .each-certificate i d (omega (arith, ap length e))))
 
-  pub few-users : length (path-of p .user-list) ≤ Limits.listed
-  unfolding path-of
-  few-users = omega (arith, length-take (p .«user_count») (p .«user_policies»), count-passed (p .«user_count») (path-parts p e .user-count))
+  pub authority-fits : length (Levels.judged p .authority) ≤ Limits.table
+  authority-fits =
+      omega (arith, ap (λ a. length (a .authority)) same, authority-bound p well-formed, room (p .certificates) refl, few .certificates)
 
-  few : (c : Certificate) → In c (path-of p .certificates) → Few c
-  unfolding path-of
-  few c i =
-      let m = In-map certificate-of (take (p .«certificate_count») (p .certificates)) i in
-      let parts = path-parts p e .certificates (m .0) (m .1) in
-      subst Few (m .2) (stored-few (m .0) (count-passed _ (parts .policy-count)) (count-passed _ (parts .mapping-count)))
-
-  well-formed : WellFormed (path-of p)
-  well-formed = decoded-well-formed p (omega arith) e
-
-  pub same : Levels.judged (path-of p) ≡ Graph.judged (path-of p)
-  same = levels-same (path-of p) well-formed
-
-  pub authority-fits : length (Levels.judged (path-of p) .authority) ≤ Limits.table
-  authority-fits = omega (arith, ap (λ a. length (a .authority)) same, authority-bound (path-of p) well-formed, room-most (path-of p .certificates) few, most)
+-- the record of such a path
+pub sound : (rec : List ℕ) (r : ℕ) (p : Path) → r ≡ length (packed p) → take r rec ≡ packed p → Few p → WellFormed p → length rec < 65536 → Sound rec r × (unpacked rec ≡ p)
+sound rec r p l t f w h =
+    let st : Stands rec 0 (packed p) = ap (λ n. take n rec) (sym l) ∙ t in
+    let back = stands-back rec p st in
+    let here = λ (P : Path → Type 0) (x : P p). subst P (sym back) x in
+    (record { stands = here (λ q. Stands rec 0 (packed q)) st; all = here (λ q. r ≡ length (packed q)) l; few = here Few f; well-formed = here WellFormed w; small = h }, back)

@@ -1,4 +1,4 @@
-// The judge on decoded paths, by the policy graph of RFC 9618.
+// The judge on records and on decoded paths, by the policy graph of RFC 9618.
 ghost use mathlib.Core.Path.{_≡_};
 ghost use Prim.Native.Nat.{_≤_};
 ghost use lib.ListN.{length, replicate};
@@ -7,6 +7,8 @@ ghost use Rattle.rules.specs.Layout.{path-of};
 ghost use Rattle.rules.specs.Faults.{path-fault};
 ghost use Rattle.rules.specs.Graph as Graph;
 ghost use Rattle.rules.specs.Judge.{outcome, verdict, path-judged};
+ghost use Rattle.record.specs.Unpacked.{unpacked};
+ghost use Rattle.graph.specs.Sound.{Sound};
 use faults::path_fault;
 use pack::pack;
 use record::RECORD;
@@ -15,6 +17,21 @@ use rules::DEPTHS;
 use rules::Path;
 use rules::TABLE;
 use rules::TABLE_SHORT;
+
+// The path of a record that takes `places`, judged into tables that are long enough.
+pub fn judge_record(
+    rec: &mut [u16],
+    places: usize,
+    authority: &mut [u16],
+    user: &mut [u16],
+) -> Answer
+    requires { ⌜ Sound (now rec) places ⌝ }
+    requires { ⌜ Limits.table ≤ length (now authority) ⌝ }
+    requires { ⌜ Limits.table ≤ length (now user) ⌝ }
+    ensures { λ r. ⌜ outcome r (now (authority .exit)) (now (user .exit)) ≡ verdict (Graph.judged (unpacked (now (rec .entry)))) (now (authority .entry)) (now (user .entry)) ⌝ }
+{
+    engine::judge(rec, places, authority, user)
+}
 
 // A path that has no fault, judged into tables that are long enough.
 pub fn judge(path: Path, authority: &mut [u16], user: &mut [u16]) -> Answer
@@ -25,7 +42,7 @@ pub fn judge(path: Path, authority: &mut [u16], user: &mut [u16]) -> Answer
 {
     let mut rec = [0u16; RECORD];
     let places = pack(path, &mut rec);
-    engine::judge(&mut rec, places, authority, user)
+    judge_record(&mut rec, places, authority, user)
 }
 
 // A refusal: the tables are left as they are.
