@@ -1,0 +1,63 @@
+-- Numbers stored in a stretch of a record: one number more, a store before the stretch, two stretches side by side; and whether a
+-- list's first places hold a number.
+use Prim.Native.Nat.{ℕ, suc, _+_, _≤_, _<_}
+use native.Mathlib.Numerals.{add-one}
+use native.Mathlib.Omega.{arith}
+use mathlib.Core.Bool.{true, false, _||_}
+use mathlib.Core.List.{List, [], _∷_, _++_, append-assoc}
+use mathlib.Core.Path.{_≡_, refl, ap, sym, _∙_}
+use borrow.Author.Tests.{ne-eqb}
+use lib.ListN.{length, take, drop, set, getD, length-append}
+use lib.Seq.{sets, sets-eq, set-comm, take-suc, take-append-seam, drop-at, length-take-le}
+use Rattle.rules.specs.Sets.{_∈_}
+use Rattle.laws.proofs.Sets.{mem-append, eqb-same, or-right, or-false}
+use Rattle.record.specs.Puts.{Puts}
+use Rattle.record.proofs.Put.{puts-both}
+
+pub mem-none : (p : ℕ) → p ∈ [] ≡ false
+unfolding _∈_
+mem-none p = refl
+
+module _ (vs : List ℕ) (i p : ℕ) (h : i < length vs) where
+  mem-more : p ∈ take (i + 1) vs ≡ (p ∈ take i vs || p ∈ (getD vs i 0 ∷ []))
+  mem-more = rw (add-one, take-suc vs i 0 h, mem-append)
+
+  pub mem-here : getD vs i 0 ≡ p → p ∈ take (i + 1) vs ≡ true
+  unfolding _∈_
+  mem-here e = mem-more ∙ or-right (p ∈ take i vs) (rw e (ap (λ b. b || false) (eqb-same p)))
+
+  pub mem-past : (getD vs i 0 ≡ p → ⊥) → p ∈ take (i + 1) vs ≡ p ∈ take i vs
+  unfolding _∈_
+  mem-past z = mem-more ∙ ap (λ b. p ∈ take i vs || (b || false)) (ne-eqb p (getD vs i 0) (λ e. z (sym e))) ∙ or-false _
+
+pub length-snoc : {A : Type 0} (xs : List A) (x : A) → length (xs ++ (x ∷ [])) ≡ length xs + 1
+length-snoc xs x = length-append xs (x ∷ [])
+
+pub sets-append : (s : List ℕ) (k : ℕ) (xs ys : List ℕ) → sets (sets s k xs) (k + length xs) ys ≡ sets s k (xs ++ ys)
+sets-append s k xs ys =
+    let p : Puts s k xs (sets s k xs) (k + length xs) = record { next = refl; places = refl } in
+    let q : Puts (sets s k xs) (k + length xs) ys (sets (sets s k xs) (k + length xs) ys) (k + length xs + length ys) = record { next = refl; places = refl } in
+    puts-both p q .places
+
+-- one number more
+pub sets-more : (s : List ℕ) (k : ℕ) (xs : List ℕ) (x i : ℕ) → length xs ≡ i → set (sets s k xs) (k + i) x ≡ sets s k (xs ++ (x ∷ []))
+sets-more s k xs x i e = ap (λ n. set (sets s k xs) (k + n) x) (sym e) ∙ sets-append s k xs (x ∷ [])
+
+-- a store before a stretch and the stretch: either may come first
+pub set-sets : (s : List ℕ) (k : ℕ) (xs : List ℕ) (j x : ℕ) → j < k → set (sets s k xs) j x ≡ sets (set s j x) k xs
+set-sets s k [] j x h = refl
+set-sets s k (y ∷ xs) j x h =
+    set-sets (set s k y) (suc k) xs j x (omega arith) ∙ ap (λ t. sets t (suc k) xs) (set-comm s k j y x (λ e. omega arith))
+
+-- the stretch itself
+pub stretch : (s : List ℕ) (k : ℕ) (xs : List ℕ) → k + length xs ≤ length s → take (length xs) (drop k (sets s k xs)) ≡ xs
+stretch s k xs h =
+    rw (sets-eq xs s k h, append-assoc)
+    (ap (take (length xs)) (drop-at (take k s) _ k (length-take-le k s (omega arith))) ∙ take-append-seam xs _)
+
+-- a pair more of two stretches, of which the second starts m places after the first
+pub pair-more : (s : List ℕ) (k m : ℕ) (xs ys : List ℕ) (x y i : ℕ) → length xs ≡ i → length ys ≡ i → i < m
+    → set (set (sets (sets s k xs) (k + m) ys) (k + i) x) (k + m + i) y ≡ sets (sets s k (xs ++ (x ∷ []))) (k + m) (ys ++ (y ∷ []))
+pair-more s k m xs ys x y i d e h =
+    ap (λ t. set t (k + m + i) y) (set-sets (sets s k xs) (k + m) ys (k + i) x (omega arith) ∙ ap (λ t. sets t (k + m) ys) (sets-more s k xs x i d))
+    ∙ sets-more (sets s k (xs ++ (x ∷ []))) (k + m) ys y i e
