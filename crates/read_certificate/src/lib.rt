@@ -56,6 +56,7 @@ fn read_body(s: &[u8], bits: usize, at: usize, rec: &mut [u16], place: usize) ->
     requires { ⌜ at < 2 ^ 28 ⌝ }
     requires { ⌜ place + Limits.listed + Limits.listed + Limits.listed ≤ length (now rec) ⌝ }
     ensures { λ r. ⌜ Reads as-body (read-lists (now (s .entry)) at) list-numbers (now (rec .entry)) place (now (rec .exit)) r ⌝ }
+    ensures { λ r. ⌜ (r .policies ≤ Limits.listed) × (r .pairs ≤ Limits.listed) ⌝ }
 {
     let listed = read_count(s, bits, at);
     if listed.number != 0 {

@@ -1,10 +1,10 @@
 -- A field that is within the sheet, or past its end; and the small fields as parts of sixteen bits.
 use Prim.Native.Nat.{ℕ, zero, suc, _+_, _*_, _/_, _%_, _^_, _≤_, _<_}
 use native.Mathlib.Omega.{arith}
-use mathlib.Core.Bool.{Bool, true, false}
+use mathlib.Core.Bool.{Bool, true, false, _||_}
 use mathlib.Core.List.{List}
 use mathlib.Core.Path.{_≡_, refl, sym, ap, _∙_}
-use borrow.Author.Tests.{le-leb, lt-leb, lt-ltb, le-ltb, ne-eqb}
+use borrow.Author.Tests.{le-leb, lt-leb, lt-ltb, le-ltb, ltb-false, ne-eqb}
 use lib.Dec.{leb, ltb, eqb}
 use lib.ListN.{length}
 use Rattle.bitfield.proofs.Rows.{number-within, bit-below, field-fits}
@@ -163,3 +163,33 @@ module _ (s : List ℕ) (at : ℕ) where
         ∙ ap (λ x. x then λ v at. read (Certificates v) at) (field-here s (at + 1) 8 no-fault (omega arith) ∙ checked-none (field s (at + 1) 8) (at + 1 + 8)))
         ∙ (λ i. read (suc (v i)) (e i))
         ∙ ap (λ n. read n (at + 9)) one
+
+-- a field that was read has no fault
+pub field-passed : (s : List ℕ) (w : ℕ) (fault : ℕ → ℕ) (at v n : ℕ) → read-field s w fault at ≡ read v n → fault v ≡ 0
+unfolding read-field
+field-passed s w fault at v n e = go (leb (at + w) (8 * length s)) (fault (field s at w)) refl e
+  where
+    go : (b : Bool) (k : ℕ) → fault (field s at w) ≡ k → pick b (checked k (field s at w) (at + w)) (refused Numbers.sheet-ends) ≡ read v n → fault v ≡ 0
+    go false k f e = let z : _≡_ {A = ℕ} 0 1 = cc in absurd (omega arith)
+    go true (suc k) f e = let z : _≡_ {A = ℕ} 0 1 = cc in absurd (omega arith)
+    go true zero f e = let same : field s at w ≡ v = cc in cc
+
+-- a count that was read is within its limits
+
+present-few : (m : ℕ) → present-fault m ≡ 0 → m ≤ Limits.listed
+unfolding present-fault
+present-few m e = go (eqb m 0) (ltb Limits.listed m) refl e
+  where
+    go : (a b : Bool) → ltb Limits.listed m ≡ b → pick (a || b) Numbers.wrong-count 0 ≡ 0 → m ≤ Limits.listed
+    go true b f e = absurd (omega arith)
+    go false true f e = absurd (omega arith)
+    go false false f e = ltb-false Limits.listed m f
+
+pub present-within : (s : List ℕ) (at v n : ℕ) → read-count s at ≡ read v n → v ≤ Limits.listed
+unfolding read-count _then_ pick
+present-within s at v n e = go (read-flag s at) e
+  where
+    go : (x : Read Bool) → (x then λ present at. pick present (read-field s 5 present-fault at) (read 0 at)) ≡ read v n → v ≤ Limits.listed
+    go (refused k) e = let z : _≡_ {A = ℕ} 0 1 = cc in absurd (omega arith)
+    go (read false m) e = let z : 0 ≡ v = cc in omega arith
+    go (read true m) e = present-few v (field-passed s 5 present-fault m v n e)
