@@ -201,7 +201,7 @@ fn certificate_at(rec: &[u16], at: usize) -> Certificate
 }
 
 // A certificate of which every part is zero or absent.
-fn cleared() -> Certificate
+pub fn cleared() -> Certificate
     ensures { λ r. ⌜ r ≡ place-certificate no-certificate ⌝ }
 {
     Certificate {

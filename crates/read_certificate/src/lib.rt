@@ -140,6 +140,7 @@ pub fn read_certificate(s: &[u8], bits: usize, at: usize, rec: &mut [u16], place
     requires { ⌜ at < 2 ^ 27 ⌝ }
     requires { ⌜ place + certificate-head-places + Limits.listed + Limits.listed + Limits.listed ≤ length (now rec) ⌝ }
     ensures { λ r. ⌜ Reads (as-next packed-certificate place) (read-certificate (now (s .entry)) at) packed-certificate (now (rec .entry)) place (now (rec .exit)) r ⌝ }
+    ensures { λ r. ⌜ r .place ≤ place + certificate-head-places + Limits.listed + Limits.listed + Limits.listed ⌝ }
 {
     if bits < at + 1 {
         return refused(SHEET_ENDS);

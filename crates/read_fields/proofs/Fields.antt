@@ -49,7 +49,7 @@ module _ (s : List ℕ) (at : ℕ) where
   unfolding read-flag _then_
   flag-ends h = ap (λ x. x then λ v at. read (eqb v 1) at) (field-ends 1 no-fault h)
 
-  flag-here : (b : Bool) → at + 1 ≤ 8 * length s → eqb (field s at 1) 1 ≡ b → read-flag s at ≡ read b (at + 1)
+  pub flag-here : (b : Bool) → at + 1 ≤ 8 * length s → eqb (field s at 1) 1 ≡ b → read-flag s at ≡ read b (at + 1)
   unfolding read-flag _then_ no-fault
   flag-here b h e =
       ap (λ x. x then λ v at. read (eqb v 1) at) (field-here 1 no-fault h ∙ checked-none (field s at 1) (at + 1)) ∙ ap (λ b. read b (at + 1)) e

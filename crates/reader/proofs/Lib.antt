@@ -1,9 +1,1 @@
-pub mod Reach
-pub mod Answers
-pub mod Fields
-pub mod Lists
-pub mod Listed
-pub mod Present
-pub mod Loops
-pub mod Rows
-pub mod Ends
+

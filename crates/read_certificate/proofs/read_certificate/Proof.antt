@@ -2,12 +2,13 @@
 use native.Mathlib.Omega.{arith}
 use mathlib.Core.Path.{_≡_, refl, ap, sym, _∙_}
 use mathlib.Core.List.{List, [], _∷_}
-use Prim.Native.Nat.{ℕ, _+_, _*_, _/_, _^_, _<_}
+use Prim.Native.Nat.{ℕ, _+_, _*_, _/_, _^_, _≤_, _<_}
 use lib.ListN.{length}
 use Rattle.rules.specs.Paths.{Certificate}
 use Rattle.rules.specs.Sheet.{read}
 use Rattle.read_certificate.specs.declared.Body.{Body}
 use Rattle.read_certificate.specs.declared.Skips.{Skips}
+use Rattle.read_certificate.specs.declared.Next.{Next}
 use Rattle.record.specs.Record.{certificate-head-places, certificate-head, packed-certificate}
 use Rattle.record.proofs.Stands.{certificate-length}
 use Rattle.read_fields.proofs.Bits.{bits-past, bits-within}
@@ -35,6 +36,10 @@ two c = c .before .before .before
 fits : (c : tie.After-peek) → length (start c .args .rec .now) < 2 ^ 64
 fits c = search needs
 
+-- a refusal has no place
+near-refused : (r : Next) {f b : ℕ} → r ≡ record { number = f; bit = 0; place = 0 } → r .place ≤ b
+near-refused r e = omega (arith, ap (λ (r : Next). r .place) e)
+
 -- what was read: the first bit, the lists and the skip values
 own : (c : tie.After-peek) → FlagWas (start c .args .s .now) (start c .args .at) (c .peek .result / 32768)
 own c = flag-was _ _ _ (bits-within (start c .pre .0) _ (omega arith) (c .before .if1 .left)) (c .peek .ensures) (omega arith)
@@ -56,7 +61,7 @@ refused-requires : tie.Need-refused-requires
 refused-requires c κs = search needs
 
 returns : tie.Need-returns
-returns c = reads-refused (as-next packed-certificate _) packed-certificate (self-refused _ _ _ (flag-ends _ _ (bits-past (c .before .before .before .before .pre .0) _ (omega arith) (c .before .if1 .taken)))) (c .refused .ensures)
+returns c = (reads-refused (as-next packed-certificate _) packed-certificate (self-refused _ _ _ (flag-ends _ _ (bits-past (c .before .before .before .before .pre .0) _ (omega arith) (c .before .if1 .taken)))) (c .refused .ensures), near-refused _ (c .refused .ensures))
 
 peek-requires : tie.Need-peek-requires
 peek-requires c κs = search needs
@@ -77,7 +82,7 @@ same-length : tie.Need-same-length
 same-length c = search needs
 
 returns-2 : tie.Need-returns-2
-returns-2 c = reads-refused (as-next packed-certificate _) packed-certificate (lists-refused _ _ _ _ (own (c .before .before .before .before .before .before .before) .said) _ (was-refused bodies _ _ (c .before .before .before .before .before .read-body .ensures .0 .said) (c .before .if2 .taken))) (c .refused2 .ensures)
+returns-2 c = (reads-refused (as-next packed-certificate _) packed-certificate (lists-refused _ _ _ _ (own (c .before .before .before .before .before .before .before) .said) _ (was-refused bodies _ _ (c .before .before .before .before .before .read-body .ensures .0 .said) (c .before .if2 .taken))) (c .refused2 .ensures), near-refused _ (c .refused2 .ensures))
 
 read-skips-requires : tie.Need-read-skips-requires
 read-skips-requires c κs = (start (one c) .pre .0, omega (arith, body c .near, lists-end c))
@@ -90,10 +95,12 @@ same-length-2 c = search needs
 
 returns-3 : tie.Need-returns-3
 returns-3 c =
-    let e = c .before .before .before .before in
-    reads-refused (as-next packed-certificate _) packed-certificate
-    (skips-refused _ _ _ _ (own (one e) .said) _ _ (body e .said ∙ ap (read (body e .value)) (sym (lists-end e))) _ (was-refused skips _ _ (c .before .before .before .read-skips .ensures) (c .before .if3 .taken)))
-    (c .refused3 .ensures)
+    let e = c .before .before .before .before in (
+      reads-refused (as-next packed-certificate _) packed-certificate
+          (skips-refused _ _ _ _ (own (one e) .said) _ _ (body e .said ∙ ap (read (body e .value)) (sym (lists-end e))) _ (was-refused skips _ _ (c .before .before .before .read-skips .ensures) (c .before .if3 .taken)))
+          (c .refused3 .ensures),
+      near-refused _ (c .refused3 .ensures),
+    )
 
 slice-aggregate-copy : tie.Need-slice-aggregate-copy
 slice-aggregate-copy c = search needs
@@ -147,11 +154,13 @@ returns-4 c =
     let b = body e in
     let v = values f in
     let copied = c .before .before .before .before .copy .ensures in
-    let ends = ap (λ (r : Skips). r .bit) (v .holds) in
-    reads-value (as-next packed-certificate _) packed-certificate
-    (certificate-read _ _ _ _ (own (one e) .said) _ _ (b .said ∙ ap (read (b .value)) (sym (lists-end e))) _ _ (v .said))
-    (λ i. record { number = 0; bit = ends i; place = after f (s .place) _ (first c) i })
-    (head-last (s .rec .now) (s .place) (certificate f) _ (heads f) (e .before .before .before .before .read-body .ensures .0 .places _ _ (b .said)) (copied .places))
+    let ends = ap (λ (r : Skips). r .bit) (v .holds) in (
+      reads-value (as-next packed-certificate _) packed-certificate
+          (certificate-read _ _ _ _ (own (one e) .said) _ _ (b .said ∙ ap (read (b .value)) (sym (lists-end e))) _ _ (v .said))
+          (λ i. record { number = 0; bit = ends i; place = after f (s .place) _ (first c) i })
+          (head-last (s .rec .now) (s .place) (certificate f) _ (heads f) (e .before .before .before .before .read-body .ensures .0 .places _ _ (b .said)) (copied .places)),
+      omega (arith, first c, e .before .before .before .before .read-body .ensures .1),
+    )
 
 pub read-certificate-spec : {M : Type 1} → statement M
 read-certificate-spec =
