@@ -1,6 +1,6 @@
 -- The sheet's fields put from the first bit, and zero bits to the end of the byte, are the sheet's bytes before the buffer's later ones.
 use Prim.Native.Nat.{ℕ, zero, suc, _+_, _-_, _*_, _/_, _%_, _^_, _≤_, _<_}
-use mathlib.Core.Bool.{Bool, true, false}
+use mathlib.Core.Bool.{Bool}
 use mathlib.Core.List.{List, [], _∷_, _++_}
 use mathlib.Core.Path.{_≡_, refl, sym, ap, ap₂, _∙_, subst}
 use native.Mathlib.Nat.{zero-div}
@@ -20,8 +20,8 @@ use Rattle.rules.specs.Layout.{path-of}
 use Rattle.rules.specs.Faults.{path-fault}
 use Rattle.rules.specs.Sheet.{Field, fields, sheet-of, as-written, written-unless, written}
 use Rattle.bitfield.proofs.Put.{Bytes, Bits, by-place, same-bits, length-put, bytes-put, bit-inside, bit-before, bit-after, length-bits-of, at-bits-of, bits-are-bits, length-packed, bytes-packed, bit-packed}
-use Rattle.writer.specs.Fields.{widths, put-fields, Puts}
-use Rattle.writer.proofs.Laws.{widths-none, widths-cons, put-nothing, put-cons, length-put-fields}
+use Rattle.write_fields.specs.Fields.{widths, put-fields, Puts}
+use Rattle.write_fields.proofs.Laws.{widths-none, widths-cons, put-nothing, put-cons, length-put-fields}
 
 -- a place of two lists, in the first or in the second
 
@@ -163,6 +163,22 @@ sheet-bits-are : (p : Path) → sheet-of p ≡ packed (bits (fields p))
 unfolding sheet-of
 sheet-bits-are p = refl
 
+-- the path's fields put from the first bit and zero bits to the end of the byte: the sheet, and how many bytes it has
+module _ (p : Path) (buffer : List ℕ) (bytes : Bytes buffer) (room : widths (fields p) ≤ 8 * length buffer) {end : ℕ} {t : List ℕ} (puts : Puts buffer 0 (fields p) t end) where
+  ends : end ≡ widths (fields p)
+  ends = omega (arith, puts .next)
+
+  pub length-written : (end + 7) / 8 ≡ length (sheet-of p)
+  length-written =
+      ap (λ n. (n + 7) / 8) ends ∙ sym (length-sheet buffer (fields p) bytes room) ∙ ap length (sym (sheet-bits-are p))
+
+  pub bytes-written : {u : List ℕ} → u ≡ put-field t end (8 * ((end + 7) / 8) - end) 0 → u ≡ sheet-of p ++ drop (length (sheet-of p)) buffer
+  bytes-written put =
+      put
+      ∙ ap₂ (λ t end. put-field t end (8 * ((end + 7) / 8) - end) 0) (puts .bytes) ends
+      ∙ sheet-put buffer (fields p) bytes room
+      ∙ ap (λ q. q ++ drop (length q) buffer) (sym (sheet-bits-are p))
+
 -- what the writer answers, by its three cases
 
 module _ (p : StoredPath) (buffer : List ℕ) where
@@ -193,17 +209,6 @@ module _ (p : StoredPath) (buffer : List ℕ) where
     as-refused {f} e z =
         sym (long ∙ ap (λ f. written-unless f (sheet-of (path-of p)) buffer) (sym e) ∙ refusal f (sheet-of (path-of p)) z)
 
-    -- the fields put from the first bit and zero bits to the end of the byte
-    pub as-put : {end : ℕ} {t u : List ℕ} → path-fault p ≡ 0 → Bytes buffer → widths (fields (path-of p)) ≤ Limits.sheet-bits → Puts buffer 0 (fields (path-of p)) t end → u ≡ put-field t end (8 * ((end + 7) / 8) - end) 0 → as-written (record { number = Numbers.valid; length = (end + 7) / 8 }) u ≡ written p buffer
-    as-put {end} {t} {u} e bytes within puts put =
-        let fs = fields (path-of p) in
-        let inside : widths fs ≤ 8 * length buffer = omega arith in
-        let ends : end ≡ widths fs = omega (arith, puts .next) in
-        let written-bytes : u ≡ packed (bits fs) ++ drop (length (packed (bits fs))) buffer =
-        put
-        ∙ ap₂ (λ t end. put-field t end (8 * ((end + 7) / 8) - end) 0) (puts .bytes) ends
-        ∙ sheet-put buffer fs bytes inside in
-        let length-written : (end + 7) / 8 ≡ length (packed (bits fs)) =
-        ap (λ n. (n + 7) / 8) ends ∙ sym (length-sheet buffer fs bytes inside) in
-        success (packed (bits fs)) length-written written-bytes
-        ∙ sym (long ∙ ap₂ (λ f sheet. written-unless f sheet buffer) e (sheet-bits-are (path-of p)))
+    pub as-sheet : {n : ℕ} {u : List ℕ} → path-fault p ≡ 0 → n ≡ length (sheet-of (path-of p)) → u ≡ sheet-of (path-of p) ++ drop (length (sheet-of (path-of p))) buffer
+        → as-written (record { number = Numbers.valid; length = n }) u ≡ written p buffer
+    as-sheet e n u = success (sheet-of (path-of p)) n u ∙ sym (long ∙ ap (λ f. written-unless f (sheet-of (path-of p)) buffer) e)

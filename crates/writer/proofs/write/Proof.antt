@@ -1,36 +1,48 @@
--- `writer::write` meets its contract: 7 first, then the path's own fault, else the sheet.
-use Prim.Native.Nat.{_≤_}
-use mathlib.Core.Path.{_≡_, sym, _∙_}
-use native.Mathlib.Omega.{arith}
+-- `writer::write` meets its contract: 7 first, then the path's own fault, else the sheet of the packed path.
+use Prim.Native.Nat.{ℕ, _≤_}
+use mathlib.Core.List.{List, _++_}
+use mathlib.Core.Path.{_≡_, sym, ap, _∙_, subst⁻¹}
 use borrow.Author.Needs.{needs}
-use lib.ListN.{length, length-map}
+use lib.ListN.{length, take, drop}
 use Rattle.rules.specs.Limits as Limits
 use Rattle.rules.specs.Faults.{path-fault}
 use Rattle.rules.specs.Layout.{path-of}
-use Rattle.rules.specs.Sheet.{fields}
-use Rattle.writer.specs.Fields.{widths}
-use Rattle.writer.proofs.Bound.{faultless, path-width}
-use Rattle.writer.proofs.Laws.{puts-length}
-use Rattle.writer.proofs.Sheet.{as-short, as-refused, as-put}
+use Rattle.rules.specs.Sheet.{sheet-of}
+use Rattle.record.specs.Record.{packed}
+use Rattle.record.specs.Unpacked.{unpacked}
+use Rattle.record.specs.Puts.{Stands}
+use Rattle.record.specs.Within.{Few}
+use Rattle.record.proofs.Unpacked.{stands-back}
+use Rattle.pack.proofs.Whole.{packed-most}
+use Rattle.writer.proofs.Bound.{few}
+use Rattle.writer.proofs.Sheet.{as-short, as-refused, as-sheet}
 use Rattle.writer.proofs.write.Statement.{statement}
 use Rattle.writer.proofs.write.Tie as tie
 
--- the places of the path's arrays
-places : (c : tie.Start) → (length (c .args .p .certificates) ≡ Limits.certificates) × (length (c .args .p .«user_policies») ≡ Limits.listed)
-places c = (simp length-map at (c .good .0 .1 .1 .1 .1 .1 .1 .1 .1 .0 .1 .0 .1), search needs)
+-- a path without fault: the call, and that there is room
 
-no-fault : (c : tie.Else2) → path-fault (c .before .before .before .before .args .p) ≡ 0
+abbrev begun : tie.Else2 → tie.Start
+begun c = c .before .before .before .before
+
+room : (c : tie.Else2) → Limits.sheet-bytes ≤ length (begun c .args .buffer .now)
+room c = c .before .before .if1 .left
+
+no-fault : (c : tie.Else2) → path-fault (begun c .args .p) ≡ 0
 no-fault c = sym (c .before .path-fault .ensures) ∙ c .if2 .left
 
-within : (c : tie.Else2) → widths (fields (path-of (c .before .before .before .before .args .p))) ≤ Limits.sheet-bits
-within c =
-    let p = c .before .before .before .before .args .p in
-    let f = faultless p (no-fault c) in
-    let h = places (c .before .before .before .before) in
-    path-width p (no-fault c) (omega arith) (omega arith)
+-- its record, which is that of the path
 
-end-within : (c : tie.After-write-path) → c .write-path .result ≤ Limits.sheet-bits
-end-within c = omega (arith, c .write-path .ensures .next, within (c .before .before))
+abbrev sound : tie.After-pack → tie.Else2
+sound c = c .before .before
+
+abbrev rec : tie.After-pack → List ℕ
+rec c = c .pack .last .1 .0
+
+stands : (c : tie.After-pack) → Stands (rec c) 0 (packed (path-of (begun (sound c) .args .p)))
+stands c = ap (λ n. take n (rec c)) (sym (c .pack .ensures .length)) ∙ c .pack .ensures .places
+
+path-is : (c : tie.After-pack) → unpacked (rec c) ≡ path-of (begun (sound c) .args .p)
+path-is c = stands-back (rec c) (path-of (begun (sound c) .args .p)) (stands c)
 
 returns : tie.Need-returns
 returns c = as-short (c .before .before .args .p) (c .before .before .args .buffer .now) (c .if1 .taken)
@@ -39,35 +51,37 @@ path-fault-requires : tie.Need-path-fault-requires
 path-fault-requires c κs = search needs
 
 returns-2 : tie.Need-returns-2
-returns-2 c = as-refused (c .before .before .before .before .args .p) (c .before .before .before .before .args .buffer .now) (c .before .before .if1 .left) (c .before .path-fault .ensures) (c .if2 .taken)
+returns-2 c =
+    let a = c .before .before .before .before .args in
+    as-refused (a .p) (a .buffer .now) (c .before .before .if1 .left) (c .before .path-fault .ensures) (c .if2 .taken)
 
-write-path-requires : tie.Need-write-path-requires
-write-path-requires c κs =
-    let e = no-fault (c .before) in
-    (e, record { buffer = c .before .before .before .if1 .left; bits = omega (arith, within (c .before)) })
+slice-aggregate-pack : tie.Need-slice-aggregate-pack
+slice-aggregate-pack c = search needs
 
-add-length : tie.Need-add-length
-add-length c = let e = end-within (c .before .before) in omega arith
+pack-requires : tie.Need-pack-requires
+pack-requires c κs =
+    let b = c .before in
+    (no-fault b, packed-most (begun b .args .p) (no-fault b))
 
-mul-write-field : tie.Need-mul-write-field
-mul-write-field c = let e = end-within (c .before .before .before) in omega arith
+slice-aggregate-write-record : tie.Need-slice-aggregate-write-record
+slice-aggregate-write-record c = search needs
 
-sub-write-field : tie.Need-sub-write-field
-sub-write-field c = search needs
-
-write-field-requires : tie.Need-write-field-requires
-write-field-requires c κs =
-    let e = end-within (c .before .before .before) in
-    let n = puts-length (c .before .before .before .write-path .ensures) in
-    omega arith
+write-record-requires : tie.Need-write-record-requires
+write-record-requires c κs =
+    let k = c .before .before .before in
+    let b = sound k in
+    (subst⁻¹ (λ q. Stands (rec k) 0 (packed q)) (path-is k) (stands k), (subst⁻¹ Few (path-is k) (few (begun b .args .p) (no-fault b)), room b))
 
 same-length : tie.Need-same-length
 same-length c = search needs
 
 returns-3 : tie.Need-returns-3
 returns-3 c =
-    let a = c .before .before .before .before .before .before .before .before .before .before .before .before .args in
-    as-put (a .p) (a .buffer .now) (c .before .before .before .before .before .before .before .before .before .before .if1 .left) (no-fault (c .before .before .before .before .before .before .before .before)) (λ j. c .before .before .before .before .before .before .before .before .before .before .before .slice-known .given j .fits) (within (c .before .before .before .before .before .before .before .before)) (c .before .before .before .before .before .before .write-path .ensures) (c .before .before .write-field .ensures)
+    let k = c .before .before .before .before .before .before in
+    let b = sound k in
+    let a = begun b .args in
+    let w = c .before .before .write-record .ensures in
+    as-sheet (a .p) (a .buffer .now) (room b) (no-fault b) (w .0 ∙ ap (λ q. length (sheet-of q)) (path-is k)) (w .1 ∙ ap (λ q. sheet-of q ++ drop (length (sheet-of q)) (a .buffer .now)) (path-is k))
 
 pub write-spec : {M : Type 1} → statement M
 write-spec =
@@ -76,10 +90,9 @@ write-spec =
     returns
     path-fault-requires
     returns-2
-    write-path-requires
-    add-length
-    mul-write-field
-    sub-write-field
-    write-field-requires
+    slice-aggregate-pack
+    pack-requires
+    slice-aggregate-write-record
+    write-record-requires
     same-length
     returns-3)

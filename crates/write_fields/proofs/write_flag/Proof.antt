@@ -1,10 +1,10 @@
--- `writer::write_flag` meets its contract: a flag is one bit, 1 where it is set.
+-- `write_fields::write_flag` meets its contract: a flag is one bit, 1 where it is set.
 use mathlib.Core.Path.{sym}
 use native.Mathlib.Omega.{arith}
 use borrow.Author.Needs.{needs}
-use Rattle.writer.proofs.Laws.{room-same, puts-same, flag-set, flag-clear}
-use Rattle.writer.proofs.write_flag.Statement.{statement}
-use Rattle.writer.proofs.write_flag.Tie as tie
+use Rattle.write_fields.proofs.Laws.{room-same, puts-same, flag-set, flag-clear}
+use Rattle.write_fields.proofs.write_flag.Statement.{statement}
+use Rattle.write_fields.proofs.write_flag.Tie as tie
 
 put-requires : tie.Need-put-requires
 put-requires c κs = (omega arith, room-same (flag-set (c .before .if1 .taken)) (c .before .before .before .pre))

@@ -1,10 +1,9 @@
--- `writer::put` meets its contract: one field, within the room that it was given.
-use Prim.Native.Nat.{_≤_}
+-- `write_fields::put` meets its contract: one field, within the room that it was given.
 use native.Mathlib.Omega.{arith}
 use borrow.Author.Needs.{needs}
-use Rattle.writer.proofs.Laws.{puts-one, room-one}
-use Rattle.writer.proofs.put.Statement.{statement}
-use Rattle.writer.proofs.put.Tie as tie
+use Rattle.write_fields.proofs.Laws.{puts-one, room-one}
+use Rattle.write_fields.proofs.put.Statement.{statement}
+use Rattle.write_fields.proofs.put.Tie as tie
 
 write-field-requires : tie.Need-write-field-requires
 write-field-requires c κs =
