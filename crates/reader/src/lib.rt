@@ -1,6 +1,6 @@
 // Reads the sheet of document 01: any bytes, and the record of the path that they hold, or the number of the first refusal.
 ghost use mathlib.Core.Path.{_≡_};
-ghost use Prim.Native.Nat.{_^_, _≤_, _<_};
+ghost use Prim.Native.Nat.{_+_, _^_, _≤_, _<_};
 ghost use lib.ListN.{length};
 ghost use Rattle.rules.specs.Limits as Limits;
 ghost use Rattle.rules.specs.Layout.{place-path, no-path};

@@ -7,8 +7,8 @@ use borrow.Author.Needs.{needs}
 use Rattle.reader.proofs.cleared_path.Statement.{statement}
 use Rattle.reader.proofs.cleared_path.Tie as tie
 
-cleared-certificate-requires : tie.Need-cleared-certificate-requires
-cleared-certificate-requires c κs = search needs
+cleared-requires : tie.Need-cleared-requires
+cleared-requires c κs = search needs
 
 returns : tie.Need-returns
 unfolding place-path no-path
@@ -19,8 +19,8 @@ returns c = λ i. record {
   «user_count» = 0;
   «user_policies» = replicate Limits.listed 0;
   «certificate_count» = 0;
-  certificates = replicate Limits.certificates (c .cleared-certificate .ensures i);
+  certificates = replicate Limits.certificates (c .cleared .ensures i);
 }
 
 pub cleared-path-spec : {M : Type 1} → statement M
-cleared-path-spec = tie.close (tie.spec cleared-certificate-requires returns)
+cleared-path-spec = tie.close (tie.spec cleared-requires returns)
