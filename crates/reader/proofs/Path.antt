@@ -85,7 +85,7 @@ module _ (s : List ℕ) where
   abbrev users-after : Start → ℕ → Read Path
   users-after h at = read-policies s user-fault (h .user-count) [] at then λ us at. certificates-after (record { start = h; users = us }) at
 
-  path-fields : read-path s
+  pub path-fields : read-path s
       ≡ (read-field s 4 edition-fault 0 then λ e at. read-field s 4 n-fault at then λ n at. read-flag s at then λ mi at. read-flag s at then λ ep at. read-flag s at then λ ai at. read-field s 5 count-fault at then λ u at. users-after (record { n = n; mapping-inhibit = mi; explicit-policy = ep; any-inhibit = ai; user-count = u }) at)
   unfolding read-path
   path-fields = refl
