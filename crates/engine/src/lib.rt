@@ -94,7 +94,7 @@ fn fill_sets(
         return n;
     }
     let all = marks[ANY] == INHERITED;
-    rows::put_users(users, marks, all, spare);
+    children::put_users(users, marks, all, spare);
     fill_marked(names, spare, user)
 }
 

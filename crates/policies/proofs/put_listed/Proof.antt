@@ -1,20 +1,20 @@
--- `put_users` meets its contract: after i turns the row is the sweep's.
+-- `put_listed` meets its contract: after i turns the row is the sweep's.
 use Prim.Native.Nat.{_≤_, _<_, _-_}
 use mathlib.Core.Path.{_≡_, refl, _∙_}
 use borrow.Author.Needs.{needs}
 use native.Mathlib.Omega.{arith}
 use lib.ListN.{length, length-set}
 use Rattle.rules.specs.Sets.{pick}
 use Rattle.rows.specs.Row as spec
 use Rattle.rows.proofs.Sweep.{start, turn, done}
-use Rattle.rows.proofs.put_users.Statement.{statement}
-use Rattle.rows.proofs.put_users.Tie as tie
+use Rattle.policies.proofs.put_listed.Statement.{statement}
+use Rattle.policies.proofs.put_listed.Tie as tie
 
 abbrev Inv-loop : tie.InvT-loop
-Inv-loop users marks all row₀ i₀ row i = (i ≤ length users) × (length row ≡ length row₀) × (row ≡ spec.put-users i users marks all row₀)
+Inv-loop listed expected otherwise row₀ i₀ row i = (i ≤ length listed) × (length row ≡ length row₀) × (row ≡ spec.put-listed i listed expected otherwise row₀)
 
 abbrev μ-loop : tie.MeasureT-loop
-μ-loop users marks all row₀ i₀ row i = length users - i
+μ-loop listed expected otherwise row₀ i₀ row i = length listed - i
 
 below : (c : tie.After-wide Inv-loop μ-loop) → c .wide .result < length (c .before .before .before .loop .row)
 below c =
@@ -27,8 +27,8 @@ loop-again c =
     let l = c .before .before .before .before .before .before .before in
     (search needs, length-set (l .loop .row) _ _ ∙ l .loop .inv .1, turn _ _ _ (l .loop .i) _ _ _ _ (l .loop .inv .2) (c .before .before .before .before .wide .ensures) (cc))
 
-pub put-users-spec : {M : Type 1} → statement M
-put-users-spec =
+pub put-listed-spec : {M : Type 1} → statement M
+put-listed-spec =
     tie.close
     (tie.spec
     Inv-loop

@@ -5,12 +5,12 @@ use borrow.Author.Needs.{needs}
 use native.Mathlib.Omega.{arith}
 use lib.Dec.{eqb}
 use lib.ListN.{length, length-set}
 use Rattle.rows.specs.Row as spec
 use Rattle.rows.specs.Row.{found}
 use Rattle.names.specs.Places.{at}
 use Rattle.rows.proofs.Sweep.{start, turn, done, found-none, found-more, found-done}
-use Rattle.rows.proofs.mark.Statement.{statement}
-use Rattle.rows.proofs.mark.Tie as tie
+use Rattle.children.proofs.mark.Statement.{statement}
+use Rattle.children.proofs.mark.Tie as tie
 
 abbrev Inv-loop : tie.InvT-loop
 Inv-loop row marks₀ yes₀ i₀ marks yes' i =
