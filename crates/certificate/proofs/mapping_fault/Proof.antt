@@ -6,8 +6,8 @@ use borrow.Author.Needs.{needs}
 use Rattle.rules.specs.Numbers as Numbers
 use Rattle.rules.specs.Sets.{_∈_}
 use Rattle.laws.proofs.Sets.{or-left, or-right, pick-yes, pick-no}
-use Rattle.walk.proofs.mapping_fault.Statement.{statement}
-use Rattle.walk.proofs.mapping_fault.Tie as tie
+use Rattle.certificate.proofs.mapping_fault.Statement.{statement}
+use Rattle.certificate.proofs.mapping_fault.Tie as tie
 
 pub mapping-fault-spec : {M : Type 1} → statement M
 mapping-fault-spec =

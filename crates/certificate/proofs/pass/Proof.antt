@@ -10,9 +10,9 @@ use Rattle.rules.specs.Paths.{Certificate}
 use Rattle.record.specs.Record.{issued, subjected}
 use Rattle.places.specs.Numbered.{certificate-at, HeldAt}
 use Rattle.rows.specs.Row.{map-row}
-use Rattle.walk.specs.Walking.{entered, fault-of}
-use Rattle.walk.proofs.pass.Statement.{statement}
-use Rattle.walk.proofs.pass.Tie as tie
+use Rattle.certificate.specs.Entered.{entered, fault-of}
+use Rattle.certificate.proofs.pass.Statement.{statement}
+use Rattle.certificate.proofs.pass.Tie as tie
 
 abbrev here : tie.Start → Certificate
 here c = certificate-at (c .args .rec .now) (c .args .at)

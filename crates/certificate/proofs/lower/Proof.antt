@@ -5,9 +5,9 @@ use borrow.Author.Needs.{needs}
 use Rattle.rules.specs.Counters.{after}
 use Rattle.record.specs.Unpacked.{skip-of}
 use Rattle.counters.specs.Counted.{counted, passed}
-use Rattle.walk.proofs.Parts.{self-issued-is, require-explicit-is, inhibit-mapping-is, inhibit-any-is, head-room}
-use Rattle.walk.proofs.lower.Statement.{statement}
-use Rattle.walk.proofs.lower.Tie as tie
+use Rattle.certificate.proofs.Parts.{self-issued-is, require-explicit-is, inhibit-mapping-is, inhibit-any-is, head-room}
+use Rattle.certificate.proofs.lower.Statement.{statement}
+use Rattle.certificate.proofs.lower.Tie as tie
 
 returns : tie.Need-returns
 unfolding after

@@ -9,7 +9,7 @@ use Rattle.rules.specs.Numbers as Numbers
 use Rattle.rules.specs.Sets.{pick, _∈_}
 use Rattle.laws.proofs.Sets.{and-false, pick-yes, pick-no}
 use Rattle.rows.specs.Row.{nodes}
-use Rattle.walk.specs.Walking.{allowed, fault-of}
+use Rattle.certificate.specs.Entered.{allowed, fault-of}
 
 pub allowed-is : (last : Bool) (any : ℕ) (self-issued : Bool) (ps : List ℕ) → allowed last any self-issued ps ≡ (0 ∈ ps && (ltb 0 any || (not last && self-issued)))
 unfolding allowed

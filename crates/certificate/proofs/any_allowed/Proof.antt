@@ -2,9 +2,9 @@
 use borrow.Author.Needs.{needs}
 use borrow.Author.Tests.{lt-ltb, le-ltb}
 use Rattle.laws.proofs.Sets.{and-true, and-false}
-use Rattle.walk.proofs.Laws.{allowed-is}
-use Rattle.walk.proofs.any_allowed.Statement.{statement}
-use Rattle.walk.proofs.any_allowed.Tie as tie
+use Rattle.certificate.proofs.Laws.{allowed-is}
+use Rattle.certificate.proofs.any_allowed.Statement.{statement}
+use Rattle.certificate.proofs.any_allowed.Tie as tie
 
 pub any-allowed-spec : {M : Type 1} → statement M
 any-allowed-spec =

@@ -4,10 +4,10 @@ use native.Mathlib.Omega.{arith}
 use borrow.Author.Needs.{needs}
 use Rattle.names.specs.Places.{Within}
 use Rattle.rows.specs.Row.{new-row}
-use Rattle.walk.specs.Walking.{allowed, entered, fault-of}
-use Rattle.walk.proofs.Parts.{self-issued-is, head-room}
-use Rattle.walk.proofs.enter.Statement.{statement}
-use Rattle.walk.proofs.enter.Tie as tie
+use Rattle.certificate.specs.Entered.{allowed, entered, fault-of}
+use Rattle.certificate.proofs.Parts.{self-issued-is, head-room}
+use Rattle.certificate.proofs.enter.Statement.{statement}
+use Rattle.certificate.proofs.enter.Tie as tie
 
 returns : tie.Need-returns
 unfolding entered

@@ -4,8 +4,8 @@ use borrow.Author.Needs.{needs}
 use Rattle.names.specs.Places.{Within}
 use Rattle.rows.specs.Row.{map-row, expect}
 use Rattle.rows.proofs.Places.{pairs-same}
-use Rattle.walk.proofs.leave.Statement.{statement}
-use Rattle.walk.proofs.leave.Tie as tie
+use Rattle.certificate.proofs.leave.Statement.{statement}
+use Rattle.certificate.proofs.leave.Tie as tie
 
 pub leave-spec : {M : Type 1} → statement M
 leave-spec =
