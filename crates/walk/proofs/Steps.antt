@@ -37,8 +37,9 @@ use Rattle.rows.proofs.Counts.{small-new, small-map}
 use Rattle.rows.proofs.Lengths.{length-new-row, length-map-row, length-expect}
 use Rattle.rows.proofs.Store.{length-row, small-row, small-put, clear-row, length-put, at-after-put, steps-put, row-put, steps-before-put}
 use Rattle.walk.specs.declared.Reached.{Reached}
-use Rattle.walk.specs.Walking.{allowed, entered, fault-of, concluded-of, answer-of}
-use Rattle.walk.proofs.Tests.{allowed-same, fault-same}
+use Rattle.certificate.specs.Entered.{allowed, entered, fault-of}
+use Rattle.walk.specs.Walking.{concluded-of, answer-of}
+use Rattle.certificate.proofs.Tests.{allowed-same, fault-same}
 
 -- the model's steps
 

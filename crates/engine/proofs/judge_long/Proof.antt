@@ -3,7 +3,7 @@ use mathlib.Core.Path.{refl}
 use native.Mathlib.Omega.{arith}
 use borrow.Author.Needs.{needs}
 use Rattle.record.specs.Record.{most-places}
-use Rattle.engine.proofs.Zeros.{clear-zeros}
+use Rattle.arrays.proofs.Zeros.{clear-zeros}
 use Rattle.engine.proofs.judge_long.Statement.{statement}
 use Rattle.engine.proofs.judge_long.Tie as tie
 

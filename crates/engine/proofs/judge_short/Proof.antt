@@ -3,7 +3,7 @@ use mathlib.Core.Path.{refl}
 use native.Mathlib.Omega.{arith}
 use borrow.Author.Needs.{needs}
 use Rattle.engine.specs.Rooms.{near-record}
-use Rattle.engine.proofs.Zeros.{clear-zeros}
+use Rattle.arrays.proofs.Zeros.{clear-zeros}
 use Rattle.engine.proofs.judge_short.Statement.{statement}
 use Rattle.engine.proofs.judge_short.Tie as tie
 

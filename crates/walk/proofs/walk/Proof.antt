@@ -21,8 +21,9 @@ use Rattle.rows.specs.Store.{row}
 use Rattle.rows.proofs.Places.{some-name}
 use Rattle.rows.proofs.Store.{length-put, row-put, row-first}
 use Rattle.walk.specs.declared.Reached.{Reached}
-use Rattle.walk.specs.Walking.{fault-of, answer-of}
-use Rattle.walk.proofs.Parts.{require-explicit-is, head-room}
+use Rattle.certificate.specs.Entered.{fault-of}
+use Rattle.walk.specs.Walking.{answer-of}
+use Rattle.certificate.proofs.Parts.{require-explicit-is, head-room}
 use Rattle.walk.proofs.Steps.{Walking, walk-start, row-room, row-length, held-at, failing, failing-at, mapped-row, mapped-at, next-wanted, expect-at, after-at, here, walk-fails, walk-next, walking-same, answer-fails, new, new-at, new-length, end-at, walk-ends, last-small}
 use Rattle.walk.proofs.walk.Statement.{statement}
 use Rattle.walk.proofs.walk.Tie as tie
