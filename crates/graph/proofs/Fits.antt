@@ -62,5 +62,14 @@ pub sound : (rec : List ℕ) (r : ℕ) (p : Path) → r ≡ length (packed p) �
 sound rec r p l t f w h =
     let st : Stands rec 0 (packed p) = ap (λ n. take n rec) (sym l) ∙ t in
     let back = stands-back rec p st in
-    let here = λ (P : Path → Type 0) (x : P p). subst P (sym back) x in
-    (record { stands = here (λ q. Stands rec 0 (packed q)) st; all = here (λ q. r ≡ length (packed q)) l; few = here Few f; well-formed = here WellFormed w; small = h }, back)
+    let there = sym back in
+    (
+      record {
+        stands = subst (λ q. Stands rec 0 (packed q)) there st;
+        all = l ∙ ap (λ q. length (packed q)) there;
+        few = subst Few there f;
+        well-formed = subst WellFormed there w;
+        small = h;
+      },
+      back,
+    )

@@ -1,4 +1,4 @@
--- A path within the limits fits the longest sheet, and a path without fault is within the limits.
+-- A path within the limits fits the longest sheet.
 use Prim.Native.Nat.{ℕ, zero, suc, _+_, _*_, _≤_, _<_}
 use mathlib.Core.Bool.{Bool, true, false}
 use mathlib.Core.List.{List, [], _∷_, _++_, map}
@@ -7,17 +7,11 @@ use native.Mathlib.Omega.{arith}
 use lib.ListN.{length, take, getD, length-take, length-map}
 use Rattle.rules.specs.declared.Skip.{Skip}
 use Rattle.rules.specs.declared.Skip.the-variants.{Absent, Certificates}
-use Rattle.rules.specs.declared.Certificate.{Certificate as StoredCertificate}
-use Rattle.rules.specs.declared.Path.{Path as StoredPath}
 use Rattle.rules.specs.Limits as Limits
 use Rattle.rules.specs.Sets.{each}
 use Rattle.rules.specs.Paths.{Mapping, Certificate, Path}
-use Rattle.rules.specs.Layout.{certificate-of, path-of}
-use Rattle.rules.specs.Faults.{certificate-fault, certificates-fault, path-fault}
 use Rattle.rules.specs.Sheet.{Field, _#_, flag, policy-fields, listed-fields, mapping-fields, mapped-fields, skip-fields, certificate-fields, fields}
 use Rattle.record.specs.Within.{FewInCertificate, Few}
-use Rattle.pack.proofs.Faultless.{none-first, none-second, counted, faultless}
-use Rattle.pack.proofs.Whole.{pairs-most}
 use Rattle.write_fields.specs.Fields.{widths}
 use Rattle.write_fields.proofs.Laws.{widths-none, widths-append}
 use Rattle.writer.proofs.Parts.{skips, after-listed, after-flag, certificate-parts, start-fields, after-start, path-parts}
@@ -98,31 +92,3 @@ path-width p few =
     let body = policy-fields us ++ each certificate-fields cs in
     omega
     (arith, ap widths (path-parts p), widths-append head (after-start us cs), start-width (length cs) (p .mapping-inhibit) (p .explicit-policy) (p .any-inhibit), field-more 5 (length us) body, widths-append (policy-fields us) (each certificate-fields cs), policies-width us, certificates-width cs (few .each-certificate), few .certificates, few .users)
-
--- a path without fault
-
-few-in-certificate : (c : StoredCertificate) → certificate-fault c ≡ 0 → FewInCertificate (certificate-of c)
-unfolding certificate-of
-few-in-certificate c e =
-    let ds = take (c .«mapping_count») (c .issuers) in
-    record {
-      policies = omega (arith, counted c e .policies, length-take (c .«policy_count») (c .policies));
-      mappings = omega (arith, counted c e .mappings, length-take (c .«mapping_count») (c .issuers), pairs-most ds (take (c .«mapping_count») (c .subjects)));
-    }
-
-few-in-each : (cs : List StoredCertificate) → certificates-fault cs ≡ 0 → (i : ℕ) (d : Certificate) → i < length (map certificate-of cs) → FewInCertificate (getD (map certificate-of cs) i d)
-unfolding certificates-fault
-few-in-each [] e i d h = absurd (omega arith)
-few-in-each (c ∷ cs) e zero d h = few-in-certificate c (none-first (certificate-fault c) (certificates-fault cs) e)
-few-in-each (c ∷ cs) e (suc i) d h = few-in-each cs (none-second (certificate-fault c) (certificates-fault cs) e) i d (omega arith)
-
-pub few : (p : StoredPath) → path-fault p ≡ 0 → Few (path-of p)
-unfolding path-of
-few p e =
-    let f = faultless p e in
-    let cs = take (p .«certificate_count») (p .certificates) in
-    record {
-      certificates = omega (arith, f .certificates, length-map cs certificate-of, length-take (p .«certificate_count») (p .certificates));
-      users = omega (arith, f .users, length-take (p .«user_count») (p .«user_policies»));
-      each-certificate = few-in-each cs (f .each-certificate);
-    }

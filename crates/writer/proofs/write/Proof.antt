@@ -13,8 +13,7 @@ use Rattle.record.specs.Unpacked.{unpacked}
 use Rattle.record.specs.Puts.{Stands}
 use Rattle.record.specs.Within.{Few}
 use Rattle.record.proofs.Unpacked.{stands-back}
-use Rattle.pack.proofs.Whole.{packed-most}
-use Rattle.writer.proofs.Bound.{few}
+use Rattle.pack.proofs.Whole.{few, packed-most}
 use Rattle.writer.proofs.Sheet.{as-short, as-refused, as-sheet}
 use Rattle.writer.proofs.write.Statement.{statement}
 use Rattle.writer.proofs.write.Tie as tie
