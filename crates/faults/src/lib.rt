@@ -31,8 +31,8 @@ fn seen(values: &[u16], before: usize, policy: u16) -> bool
 }
 
 // The fault of a list's count, or else of its first policy that is 0 or, in a `distinct` list, repeats.
-fn policies_fault(values: &[u16], count: usize, distinct: bool) -> u8
-    requires { ⌜ Limits.listed ≤ length (now values) ⌝ }
+pub fn policies_fault(values: &[u16], count: usize, distinct: bool) -> u8
+    requires { ⌜ (count ≤ Limits.listed → count ≤ length (now values)) ⌝ }
     ensures { λ r. ⌜ r ≡ (count-fault count or-else policies-fault (pick distinct listed-fault user-fault) [] (take count (now (values .entry)))) ⌝ }
 {
     if LISTED < count {
@@ -55,8 +55,9 @@ fn policies_fault(values: &[u16], count: usize, distinct: bool) -> u8
 }
 
 // The fault of the count of pairs, or else of the first pair that names 0.
-fn mappings_fault(issuers: &[u16], subjects: &[u16], number: usize) -> u8
-    requires { ⌜ (Limits.listed ≤ length (now issuers)) × (Limits.listed ≤ length (now subjects)) ⌝ }
+pub fn mappings_fault(issuers: &[u16], subjects: &[u16], number: usize) -> u8
+    requires { ⌜ (number ≤ Limits.listed → number ≤ length (now issuers)) ⌝ }
+    requires { ⌜ (number ≤ Limits.listed → number ≤ length (now subjects)) ⌝ }
     ensures { λ r. ⌜ r ≡ (count-fault number or-else mappings-fault (pairs (take number (now (issuers .entry))) (take number (now (subjects .entry))))) ⌝ }
 {
     if LISTED < number {

@@ -32,7 +32,7 @@ slice-aggregate-policies-fault c = search needs
 policies-fault-requires : tie.Need-policies-fault-requires Inv-loop μ-loop
 policies-fault-requires c κs =
     let h : length (c .before .before .before .before .args .t1 .«user_policies») ≡ Limits.listed = search needs in
-    omega arith
+    λ l. omega arith
 
 returns-3 : tie.Need-returns-3 Inv-loop μ-loop
 returns-3 c =
