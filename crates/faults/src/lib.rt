@@ -13,7 +13,20 @@ ghost use lib.ListN.{length, take};
 ghost use Rattle.rules.specs.Limits as Limits;
 ghost use Rattle.rules.specs.Sets.{pick, _∈_};
 ghost use Rattle.rules.specs.Layout.{pairs};
-ghost use Rattle.rules.specs.Faults.{_or-else_, count-fault, user-fault, listed-fault, policies-fault, mappings-fault, certificate-fault, path-fault};
+ghost use Rattle.rules.specs.Faults.{_or-else_, n-fault, count-fault, user-fault, listed-fault, policies-fault, mappings-fault, certificate-fault, path-fault};
+
+// The fault of the number of certificates.
+pub fn n_fault(n: usize) -> u8
+    ensures { λ r. ⌜ r ≡ n-fault n ⌝ }
+{
+    if n == 0 {
+        return WRONG_COUNT;
+    }
+    if CERTIFICATES < n {
+        return WRONG_COUNT;
+    }
+    0
+}
 
 // Whether `policy` is among the first `before` values.
 fn seen(values: &[u16], before: usize, policy: u16) -> bool
@@ -95,11 +108,9 @@ pub fn path_fault(p: Path) -> u8
     ensures { λ r. ⌜ r ≡ path-fault p ⌝ }
 {
     let n = p.certificate_count;
-    if n == 0 {
-        return WRONG_COUNT;
-    }
-    if CERTIFICATES < n {
-        return WRONG_COUNT;
+    let count_fault = n_fault(n);
+    if count_fault != 0 {
+        return count_fault;
     }
     let users = p.user_policies;
     let user_fault = policies_fault(&users, p.user_count, false);
