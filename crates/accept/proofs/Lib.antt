@@ -1,0 +1,4 @@
+pub mod Steps
+pub mod Sound
+pub mod Lists
+pub mod Bounded
