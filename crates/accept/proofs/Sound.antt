@@ -1,7 +1,7 @@
 -- What a record without fault has: each count within its limit, room for what it counts, and no fault in a list.
 use Prim.Native.Nat.{ℕ, zero, suc, _+_, _≤_}
 use mathlib.Core.List.{List, []}
-use mathlib.Core.Path.{_≡_, sym, _∙_}
+use mathlib.Core.Path.{_≡_, refl, sym, _∙_}
 use lib.ListN.{length, drop, getD}
 use Rattle.rules.specs.Limits as Limits
 use Rattle.rules.specs.Sets.{pick}
@@ -11,7 +11,7 @@ use Rattle.sheet.proofs.Faults.{neither, both, n-passed, n-passes, count-passed
 use Rattle.record.specs.Record.{head-places, certificate-head-places}
 use Rattle.record.specs.Unpacked.{after-certificate}
 use Rattle.given.specs.Faults.{certificate-record-fault, certificates-record-fault, record-fault}
-use Rattle.accept.proofs.Steps.{short-within, short-passed, policy-count, pair-count, policies-of, issuers-of, subjects-of, whole, steps, user-count, users-of, after-users, path-steps}
+use Rattle.accept.proofs.Steps.{short-within, short-passed, policy-count, pair-count, policies-of, issuers-of, subjects-of, whole, steps, user-count, users-of, after-users, path-steps, certificates-step}
 
 -- the certificate that starts xs
 pub record Sound (xs : List ℕ) : Type 0 where
@@ -38,12 +38,12 @@ sound xs e =
       mappings = g .1;
     }
 
--- n certificates one after the other
+-- n certificates one after the other: the first, and the others
+pub certificates-passed : {n k : ℕ} (xs : List ℕ) → n ≡ suc k → certificates-record-fault n xs ≡ 0 → (certificate-record-fault xs ≡ 0) × (certificates-record-fault k (after-certificate xs) ≡ 0)
+certificates-passed xs m e = neither _ _ (sym (certificates-step xs m) ∙ e)
+
 pub certificates-sound : (n : ℕ) (xs : List ℕ) → certificates-record-fault (suc n) xs ≡ 0 → Sound xs × (certificates-record-fault n (after-certificate xs) ≡ 0)
-unfolding certificates-record-fault
-certificates-sound n xs e =
-    let a = neither (certificate-record-fault xs) (certificates-record-fault n (after-certificate xs)) e in
-    (sound xs (a .0), a .1)
+certificates-sound n xs e = let a = certificates-passed xs refl e in (sound xs (a .0), a .1)
 
 -- the path of a record
 pub record SoundPath (r : List ℕ) : Type 0 where

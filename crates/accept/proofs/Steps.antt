@@ -160,7 +160,7 @@ unfolding certificates-record-fault
 certificates-none xs e = ap (λ n. certificates-record-fault n xs) e
 
 module _ {n k : ℕ} (xs : List ℕ) (m : n ≡ suc k) where
-  certificates-step : certificates-record-fault n xs ≡ (certificate-record-fault xs or-else certificates-record-fault k (after-certificate xs))
+  pub certificates-step : certificates-record-fault n xs ≡ (certificate-record-fault xs or-else certificates-record-fault k (after-certificate xs))
   unfolding certificates-record-fault
   certificates-step = ap (λ n. certificates-record-fault n xs) m
 

@@ -115,7 +115,11 @@ fn skip(given: &[u16], at: usize, j: usize) -> u16
     ensures { λ r. ⌜ r ≡ skip-number (bounded-skip (skip-of (getD (now (given .entry)) (at + j) 0))) ⌝ }
 {
     let number = number_at(given, at, j);
-    if MOST_SKIP < number { MOST_SKIP } else { number }
+    if MOST_SKIP < number {
+        MOST_SKIP
+    } else {
+        number
+    }
 }
 
 // The certificate at place `at` put at the same place; says which place follows. Its lists stand one after the other in both records.

@@ -88,9 +88,11 @@ returns-4 c =
 loop-holds : tie.Need-loop-holds Inv-loop μ-loop
 loop-holds c =
     let b = counted (c .before) in
-    let u = c .before .before .before .before .count-at2 .ensures in
-    (omega arith, users-passed (given b) (b .before .before .if1 .left) (n-known b) (c .before .before .before .before .before .if2 .left) (omega (arith, u)) (users-known (c .before)) (c .if4 .left)
-    ∙ ap₂ certificates-record-fault (sym (b .before .count-at .ensures)) (drop-drop (user-count (given b)) head-places (given b) ∙ ap (λ n. drop (head-places + n) (given b)) (sym u)))
+    let u = c .before .before .before .before .count-at2 .ensures in (
+      omega arith,
+      users-passed (given b) (b .before .before .if1 .left) (n-known b) (c .before .before .before .before .before .if2 .left) (omega (arith, u)) (users-known (c .before)) (c .if4 .left)
+          ∙ ap₂ certificates-record-fault (sym (b .before .count-at .ensures)) (drop-drop (user-count (given b)) head-places (given b) ∙ ap (λ n. drop (head-places + n) (given b)) (sym u)),
+    )
 
 certificate-fault-requires : tie.Need-certificate-fault-requires Inv-loop μ-loop
 certificate-fault-requires c κs = c .before .loop .inv .0
