@@ -2,7 +2,7 @@
 -- record fits the longest one's places.
 use Prim.Native.Nat.{ℕ, zero, suc, _+_, _*_, _≤_, _<_}
 use mathlib.Core.List.{List, [], _∷_, map}
-use mathlib.Core.Path.{_≡_, sym, ap, _∙_, subst}
+use mathlib.Core.Path.{_≡_, sym, subst}
 use mathlib.Core.Logic.{⊎-elim}
 use native.Mathlib.Omega.{arith}
 use lib.ListN.{length, getD, length-append}
@@ -19,8 +19,8 @@ use Rattle.record.specs.Within.{FewInCertificate, Few}
 use Rattle.record.proofs.Stands.{certificate-length}
 use Rattle.given.specs.Given.{bounded, path-given}
 use Rattle.given.specs.Faults.{certificates-record-fault, record-fault}
-use Rattle.accept.proofs.Steps.{policy-count, after-users}
-use Rattle.accept.proofs.Sound.{Sound, certificates-sound, SoundPath, sound-path}
+use Rattle.accept.proofs.Steps.{after-users}
+use Rattle.accept.proofs.Sound.{Sound, certificates-sound, sound-path}
 use Rattle.accept.proofs.Taken.{taken, policies-length, mappings-length, users-length, given-length}
 
 -- a certificate that is taken

@@ -1,17 +1,17 @@
 -- What a record without fault has: each count within its limit, room for what it counts, and no fault in a list.
-use Prim.Native.Nat.{ℕ, zero, suc, _+_, _≤_}
+use Prim.Native.Nat.{ℕ, suc, _+_, _≤_}
 use mathlib.Core.List.{List, []}
 use mathlib.Core.Path.{_≡_, refl, sym, _∙_}
-use lib.ListN.{length, drop, getD}
+use lib.ListN.{length, getD}
 use Rattle.rules.specs.Limits as Limits
 use Rattle.rules.specs.Sets.{pick}
 use Rattle.rules.specs.Layout.{pairs}
 use Rattle.rules.specs.Faults.{listed-fault, user-fault, policies-fault, mappings-fault}
-use Rattle.sheet.proofs.Faults.{neither, both, n-passed, n-passes, count-passed, count-passes}
-use Rattle.record.specs.Record.{head-places, certificate-head-places}
+use Rattle.sheet.proofs.Faults.{neither, n-passed, count-passed}
+use Rattle.record.specs.Record.{head-places}
 use Rattle.record.specs.Unpacked.{after-certificate}
 use Rattle.given.specs.Faults.{certificate-record-fault, certificates-record-fault, record-fault}
-use Rattle.accept.proofs.Steps.{short-within, short-passed, policy-count, pair-count, policies-of, issuers-of, subjects-of, whole, steps, user-count, users-of, after-users, path-steps, certificates-step}
+use Rattle.accept.proofs.Steps.{short-passed, policy-count, pair-count, policies-of, issuers-of, subjects-of, whole, steps, user-count, users-of, after-users, path-steps, certificates-step}
 
 -- the certificate that starts xs
 pub record Sound (xs : List ℕ) : Type 0 where

@@ -1,5 +1,5 @@
 -- The refusal of a record in the steps of the code: each count with its list, after what the record is too short for.
-use Prim.Native.Nat.{ℕ, zero, suc, _+_, _<_, _≤_}
+use Prim.Native.Nat.{ℕ, suc, _+_, _<_, _≤_}
 use mathlib.Core.Bool.{true, false}
 use mathlib.Core.List.{List, []}
 use mathlib.Core.Path.{_≡_, refl, sym, ap, _∙_}
@@ -9,9 +9,8 @@ use lib.ListN.{length, take, drop, getD}
 use borrow.Author.Tests.{ltb-true, ltb-false, lt-ltb, le-ltb}
 use Rattle.rules.specs.Limits as Limits
 use Rattle.rules.specs.Numbers as Numbers
-use Rattle.rules.specs.Sets.{pick}
 use Rattle.rules.specs.Layout.{pairs}
-use Rattle.rules.specs.Faults.{_or-else_, n-fault, count-fault, user-fault, listed-fault, policies-fault, mappings-fault}
+use Rattle.rules.specs.Faults.{_or-else_, n-fault, count-fault, policies-fault, mappings-fault}
 use Rattle.laws.proofs.Sets.{by-cases, pick-yes, pick-no}
 use Rattle.faults.proofs.Laws.{or-else-none, or-else-fault, or-else-assoc, counted-over, counted-within, fault-of}
 use Rattle.record.specs.Record.{head-places, certificate-head-places}

@@ -22,7 +22,7 @@ use rules::WRONG_COUNT;
 ghost use mathlib.Core.Path.{_≡_};
 ghost use mathlib.Core.List.{_++_};
 ghost use Prim.Native.Nat.{_+_, _≤_, _<_};
-ghost use lib.ListN.{length, take, drop, getD};
+ghost use lib.ListN.{length, drop, getD};
 ghost use Rattle.record.specs.Record.{flag-number, skip-number, packed-certificate, head, packed, most-places};
 ghost use Rattle.record.specs.Unpacked.{flag-of, skip-of, unpacked-certificate, after-certificate};
 ghost use Rattle.record.specs.Puts.{Room, Puts, Starts};

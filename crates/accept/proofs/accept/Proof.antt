@@ -3,7 +3,6 @@ use Prim.Native.Nat.{ℕ, suc, _+_, _≤_, _-_}
 use mathlib.Core.List.{List, _++_}
 use mathlib.Core.Path.{_≡_, refl, sym, ap, ap₂, _∙_}
 use native.Mathlib.Omega.{arith}
-use borrow.Author.Needs.{needs}
 use lib.ListN.{length, drop, getD}
 use Rattle.record.specs.Record.{packed-certificate, head, packed}
 use Rattle.record.specs.Unpacked.{after-certificate}
@@ -11,7 +10,7 @@ use Rattle.record.specs.Puts.{Puts}
 use Rattle.record.proofs.Put.{Leaves, leaves-all, leaves-none, leaves-room, leaves-next, puts-length, puts-same, starts}
 use Rattle.given.specs.Given.{path-given}
 use Rattle.given.specs.Faults.{certificate-record-fault, certificates-record-fault}
-use Rattle.accept.proofs.Steps.{after-users, whole}
+use Rattle.accept.proofs.Steps.{after-users}
 use Rattle.accept.proofs.Sound.{sound, certificates-passed, SoundPath, sound-path}
 use Rattle.accept.proofs.Lists.{next-place}
 use Rattle.accept.proofs.Taken.{taken, taken-length, all-taken, taken-none, taken-more, users-end, given-parts}

@@ -5,11 +5,11 @@ use mathlib.Core.Path.{_≡_, refl, sym, ap, _∙_}
 use native.Mathlib.Omega.{arith}
 use borrow.Author.Needs.{needs}
 use lib.ListN.{length, take, drop, length-drop}
-use lib.Seq.{getD-drop, length-take-le}
-use Rattle.record.specs.Record.{certificate-head-places, packed-certificate}
+use lib.Seq.{getD-drop}
+use Rattle.record.specs.Record.{packed-certificate}
 use Rattle.record.proofs.Put.{Leaves, leaves-all, leaves-room, leaves-next, puts-same}
-use Rattle.accept.proofs.Steps.{policy-count, pair-count, whole}
-use Rattle.accept.proofs.Sound.{Sound, sound}
+use Rattle.accept.proofs.Steps.{whole}
+use Rattle.accept.proofs.Sound.{sound}
 use Rattle.accept.proofs.Lists.{rest, first-place}
 use Rattle.accept.proofs.Taken.{taken, lists-of, head-at, taken-parts}
 use Rattle.accept.proofs.accept_certificate.Statement.{statement}

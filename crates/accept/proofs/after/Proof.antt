@@ -6,7 +6,7 @@ use lib.ListN.{length, drop, length-drop}
 use lib.Seq.{getD-drop}
 use Rattle.record.specs.Record.{certificate-head-places}
 use Rattle.accept.proofs.Steps.{whole}
-use Rattle.accept.proofs.Sound.{Sound, sound}
+use Rattle.accept.proofs.Sound.{sound}
 use Rattle.accept.proofs.Lists.{next-place}
 use Rattle.accept.proofs.after.Statement.{statement}
 use Rattle.accept.proofs.after.Tie as tie
