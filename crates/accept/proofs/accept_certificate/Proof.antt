@@ -74,7 +74,7 @@ skip-requires-3 : tie.Need-skip-requires-3
 skip-requires-3 c κs = omega (arith, room (started (c .before .before .before .before .before)))
 
 slice-aggregate-copy : tie.Need-slice-aggregate-copy
-slice-aggregate-copy c = search needs
+slice-aggregate-copy c = omega arith
 
 copy-requires : tie.Need-copy-requires
 copy-requires c κs =
@@ -88,7 +88,7 @@ count-at-requires-2 : tie.Need-count-at-requires-2
 count-at-requires-2 c κs = omega (arith, room (begun (c .before .before .before)))
 
 mul-copy : tie.Need-mul-copy
-mul-copy c = search needs
+mul-copy c = omega arith
 
 sub-copy : tie.Need-sub-copy
 sub-copy c = let b = c .before .before .before .before .before in omega (arith, room (begun b), b .copy .ensures .next)
@@ -97,13 +97,13 @@ part-copy-start : tie.Need-part-copy-start
 part-copy-start c = let b = c .before .before .before .before .before in omega (arith, room (begun b), b .copy .ensures .next)
 
 part-copy-end : tie.Need-part-copy-end
-part-copy-end c = search needs
+part-copy-end c = omega arith
 
 add-copy : tie.Need-add-copy
-add-copy c = search needs
+add-copy c = omega arith
 
 add-copy-2 : tie.Need-add-copy-2
-add-copy-2 c = search needs
+add-copy-2 c = omega arith
 
 copy-requires-2 : tie.Need-copy-requires-2
 copy-requires-2 c κs =
@@ -116,7 +116,7 @@ copy-requires-2 c κs =
     )
 
 same-length : tie.Need-same-length
-same-length c = search needs
+same-length c = omega arith
 
 returns : tie.Need-returns
 returns c =

@@ -63,7 +63,7 @@ number-at-requires-2 : tie.Need-number-at-requires-2
 number-at-requires-2 c κs = omega (arith, room (started (c .before .before .before .before)))
 
 slice-aggregate-copy : tie.Need-slice-aggregate-copy
-slice-aggregate-copy c = search needs
+slice-aggregate-copy c = omega arith
 
 copy-requires : tie.Need-copy-requires
 copy-requires c κs =
@@ -77,7 +77,7 @@ part-copy-start : tie.Need-part-copy-start
 part-copy-start c = omega (arith, room (begun (c .before .before .before)))
 
 part-copy-end : tie.Need-part-copy-end
-part-copy-end c = search needs
+part-copy-end c = omega arith
 
 count-at-requires : tie.Need-count-at-requires
 count-at-requires c κs = omega (arith, room (begun (c .before .before .before .before)))
@@ -89,7 +89,7 @@ copy-requires-2 c κs =
     (omega (arith, room (begun h), ap length (rest s head-places), length-drop head-places s, c .count-at .ensures), record { fits = omega (arith, after-head h .room .fits, ap length (users c)) })
 
 same-length : tie.Need-same-length
-same-length c = search needs
+same-length c = omega arith
 
 returns : tie.Need-returns
 returns c =

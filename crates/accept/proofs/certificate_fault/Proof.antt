@@ -4,7 +4,6 @@ use mathlib.Core.Bool.{true}
 use mathlib.Core.List.{List, []}
 use mathlib.Core.Path.{_≡_, sym, ap, ap₂, _∙_}
 use native.Mathlib.Omega.{arith}
-use borrow.Author.Needs.{needs}
 use lib.ListN.{length, take, drop, length-drop}
 use lib.Seq.{getD-drop}
 use Rattle.rules.specs.Layout.{pairs}
@@ -45,13 +44,13 @@ paired : (c : tie.After-count-at2) → c .count-at2 .result ≡ pair-count (here
 paired c = let a = begun (c .before .before) .args in c .count-at2 .ensures ∙ sym (getD-drop (a .at) (a .given .now) 2 0)
 
 sub-left : tie.Need-sub-left
-sub-left c = search needs
+sub-left c = omega arith
 
 returns : tie.Need-returns
 returns c = sym (head-short (here (c .before .before)) (omega (arith, left (c .before .before))))
 
 count-at-requires : tie.Need-count-at-requires
-count-at-requires c κs = search needs
+count-at-requires c κs = omega arith
 
 add-if2 : tie.Need-add-if2
 add-if2 c =
@@ -64,31 +63,31 @@ returns-2 c =
     sym (policies-short (here b) (omega (arith, left b)) (omega (arith, left b, listed (c .before))))
 
 add-first : tie.Need-add-first
-add-first c = search needs
+add-first c = omega arith
 
 mul-policies-fault : tie.Need-mul-policies-fault
-mul-policies-fault c = search needs
+mul-policies-fault c = omega arith
 
 sub-policies-fault : tie.Need-sub-policies-fault
-sub-policies-fault c = search needs
+sub-policies-fault c = omega arith
 
 part-policies-fault-start : tie.Need-part-policies-fault-start
-part-policies-fault-start c = search needs
+part-policies-fault-start c = omega arith
 
 part-policies-fault-end : tie.Need-part-policies-fault-end
-part-policies-fault-end c = search needs
+part-policies-fault-end c = omega arith
 
 policies-fault-requires : tie.Need-policies-fault-requires
-policies-fault-requires c κs = search needs
+policies-fault-requires c κs = omega arith
 
 returns-3 : tie.Need-returns-3
 returns-3 c = sym (policies-refused (here (begun (c .before))) (room (c .before)) (listed-fault (c .before)) (c .if3 .taken))
 
 count-at-requires-2 : tie.Need-count-at-requires-2
-count-at-requires-2 c κs = search needs
+count-at-requires-2 c κs = omega arith
 
 add-if4 : tie.Need-add-if4
-add-if4 c = search needs
+add-if4 c = omega arith
 
 add-if4-2 : tie.Need-add-if4-2
 add-if4-2 c =
@@ -110,37 +109,37 @@ returns-4 c =
     sym (pairs-short (here (begun b)) (room b) (listed-fault b) (c .before .before .if3 .left) (omega (arith, left (begun b), listed (b .before .before .before), paired (c .before))))
 
 add-middle : tie.Need-add-middle
-add-middle c = search needs
+add-middle c = omega arith
 
 add-last : tie.Need-add-last
-add-last c = search needs
+add-last c = omega arith
 
 mul-mappings-fault : tie.Need-mul-mappings-fault
-mul-mappings-fault c = search needs
+mul-mappings-fault c = omega arith
 
 sub-mappings-fault : tie.Need-sub-mappings-fault
-sub-mappings-fault c = search needs
+sub-mappings-fault c = omega arith
 
 part-mappings-fault-start : tie.Need-part-mappings-fault-start
-part-mappings-fault-start c = search needs
+part-mappings-fault-start c = omega arith
 
 part-mappings-fault-end : tie.Need-part-mappings-fault-end
-part-mappings-fault-end c = search needs
+part-mappings-fault-end c = omega arith
 
 mul-mappings-fault-2 : tie.Need-mul-mappings-fault-2
-mul-mappings-fault-2 c = search needs
+mul-mappings-fault-2 c = omega arith
 
 sub-mappings-fault-2 : tie.Need-sub-mappings-fault-2
-sub-mappings-fault-2 c = search needs
+sub-mappings-fault-2 c = omega arith
 
 part-mappings-fault-start-2 : tie.Need-part-mappings-fault-start-2
-part-mappings-fault-start-2 c = search needs
+part-mappings-fault-start-2 c = omega arith
 
 part-mappings-fault-end-2 : tie.Need-part-mappings-fault-end-2
-part-mappings-fault-end-2 c = search needs
+part-mappings-fault-end-2 c = omega arith
 
 mappings-fault-requires : tie.Need-mappings-fault-requires
-mappings-fault-requires c κs = search needs
+mappings-fault-requires c κs = omega arith
 
 returns-5 : tie.Need-returns-5
 returns-5 c =

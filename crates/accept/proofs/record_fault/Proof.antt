@@ -4,7 +4,6 @@ use mathlib.Core.Bool.{false}
 use mathlib.Core.List.{List, []}
 use mathlib.Core.Path.{_≡_, sym, ap, ap₂, _∙_}
 use native.Mathlib.Omega.{arith}
-use borrow.Author.Needs.{needs}
 use lib.ListN.{length, take, drop, getD}
 use lib.Seq.{drop-drop}
 use Rattle.rules.specs.Faults.{_or-else_, n-fault, count-fault, policies-fault}
@@ -78,7 +77,7 @@ part-policies-fault-end : tie.Need-part-policies-fault-end Inv-loop μ-loop
 part-policies-fault-end c = omega arith
 
 policies-fault-requires : tie.Need-policies-fault-requires Inv-loop μ-loop
-policies-fault-requires c κs = search needs
+policies-fault-requires c κs = omega arith
 
 returns-4 : tie.Need-returns-4 Inv-loop μ-loop
 returns-4 c =
