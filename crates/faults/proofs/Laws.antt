@@ -8,8 +8,8 @@ use native.Mathlib.Omega.{arith}
 use lib.Dec.{eqb, ltb}
 use lib.ListN.{length, take, drop, getD, length-take, drop-of-length-le}
 use lib.Seq.{slice, slice-cons, take-suc}
-use borrow.Author.Tests.{eq-eqb, ne-eqb, lt-ltb, le-ltb}
-use Rattle.laws.proofs.Sets.{or-left}
+use borrow.Author.Tests.{eq-eqb, ne-eqb, lt-ltb, le-ltb, ltb-true, ltb-false}
+use Rattle.laws.proofs.Sets.{by-cases, or-left}
 use Rattle.rules.specs.declared.Certificate.{Certificate}
 use Rattle.rules.specs.declared.Path.{Path}
 use Rattle.rules.specs.Limits as Limits
@@ -62,6 +62,10 @@ n-over {n} h = rw (lt-ltb Limits.certificates n h, ne-eqb n 0 (λ e. omega arith
 pub n-within : {n : ℕ} → (n ≡ 0 → ⊥) → n ≤ Limits.certificates → n-fault n ≡ 0
 unfolding n-fault pick
 n-within {n} z h = rw (le-ltb Limits.certificates n h, ne-eqb n 0 z)
+
+pub n-fits : (n : ℕ) → n-fault n ≡ 0 → n ≤ Limits.certificates
+n-fits n e =
+    by-cases (ltb Limits.certificates n) (λ t. absurd (omega (arith, n-over (ltb-true Limits.certificates n t)))) (λ t. ltb-false Limits.certificates n t)
 
 pub policy-none : policy-fault 0 ≡ Numbers.policy-zero
 unfolding policy-fault pick
@@ -216,8 +220,8 @@ unfolding path-fault path-of pick
 path-parts p =
     ap (λ k. n-fault (p .«certificate_count») or-else k) (sym (or-else-assoc (count-fault (p .«user_count»)) (policies-fault user-fault [] (take (p .«user_count») (p .«user_policies»))) (certificates-part p)))
 
-pub n-refused : (p : Path) → n-fault (p .«certificate_count») ≡ Numbers.wrong-count → path-fault p ≡ Numbers.wrong-count
-n-refused p e = path-parts p ∙ ap (λ f. f or-else user-part p or-else certificates-part p) e ∙ or-else-fault _ (λ z. omega arith)
+pub n-refused : (p : Path) {f : ℕ} → f ≡ n-fault (p .«certificate_count») → (f ≡ 0 → ⊥) → path-fault p ≡ f
+n-refused p e z = path-parts p ∙ ap (λ f. f or-else user-part p or-else certificates-part p) (sym e) ∙ or-else-fault _ z
 
 n-passed : (p : Path) → n-fault (p .«certificate_count») ≡ 0 → path-fault p ≡ (user-part p or-else certificates-part p)
 n-passed p e = path-parts p ∙ ap (λ f. f or-else user-part p or-else certificates-part p) e ∙ or-else-none _

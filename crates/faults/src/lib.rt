@@ -13,7 +13,20 @@ ghost use lib.ListN.{length, take};
 ghost use Rattle.rules.specs.Limits as Limits;
 ghost use Rattle.rules.specs.Sets.{pick, _∈_};
 ghost use Rattle.rules.specs.Layout.{pairs};
-ghost use Rattle.rules.specs.Faults.{_or-else_, count-fault, user-fault, listed-fault, policies-fault, mappings-fault, certificate-fault, path-fault};
+ghost use Rattle.rules.specs.Faults.{_or-else_, n-fault, count-fault, user-fault, listed-fault, policies-fault, mappings-fault, certificate-fault, path-fault};
+
+// The fault of the number of certificates.
+pub fn n_fault(n: usize) -> u8
+    ensures { λ r. ⌜ r ≡ n-fault n ⌝ }
+{
+    if n == 0 {
+        return WRONG_COUNT;
+    }
+    if CERTIFICATES < n {
+        return WRONG_COUNT;
+    }
+    0
+}
 
 // Whether `policy` is among the first `before` values.
 fn seen(values: &[u16], before: usize, policy: u16) -> bool
@@ -31,8 +44,8 @@ fn seen(values: &[u16], before: usize, policy: u16) -> bool
 }
 
 // The fault of a list's count, or else of its first policy that is 0 or, in a `distinct` list, repeats.
-fn policies_fault(values: &[u16], count: usize, distinct: bool) -> u8
-    requires { ⌜ Limits.listed ≤ length (now values) ⌝ }
+pub fn policies_fault(values: &[u16], count: usize, distinct: bool) -> u8
+    requires { ⌜ (count ≤ Limits.listed → count ≤ length (now values)) ⌝ }
     ensures { λ r. ⌜ r ≡ (count-fault count or-else policies-fault (pick distinct listed-fault user-fault) [] (take count (now (values .entry)))) ⌝ }
 {
     if LISTED < count {
@@ -55,8 +68,9 @@ fn policies_fault(values: &[u16], count: usize, distinct: bool) -> u8
 }
 
 // The fault of the count of pairs, or else of the first pair that names 0.
-fn mappings_fault(issuers: &[u16], subjects: &[u16], number: usize) -> u8
-    requires { ⌜ (Limits.listed ≤ length (now issuers)) × (Limits.listed ≤ length (now subjects)) ⌝ }
+pub fn mappings_fault(issuers: &[u16], subjects: &[u16], number: usize) -> u8
+    requires { ⌜ (number ≤ Limits.listed → number ≤ length (now issuers)) ⌝ }
+    requires { ⌜ (number ≤ Limits.listed → number ≤ length (now subjects)) ⌝ }
     ensures { λ r. ⌜ r ≡ (count-fault number or-else mappings-fault (pairs (take number (now (issuers .entry))) (take number (now (subjects .entry))))) ⌝ }
 {
     if LISTED < number {
@@ -94,11 +108,9 @@ pub fn path_fault(p: Path) -> u8
     ensures { λ r. ⌜ r ≡ path-fault p ⌝ }
 {
     let n = p.certificate_count;
-    if n == 0 {
-        return WRONG_COUNT;
-    }
-    if CERTIFICATES < n {
-        return WRONG_COUNT;
+    let count_fault = n_fault(n);
+    if count_fault != 0 {
+        return count_fault;
     }
     let users = p.user_policies;
     let user_fault = policies_fault(&users, p.user_count, false);

@@ -16,7 +16,7 @@ use Rattle.agreement.proofs.Same.{WellFormed}
 use Rattle.sheet.proofs.Faults.{n-passed, no-repeats, path-parts}
 use Rattle.sheet.proofs.Writable.{Writable}
 
-not-empty {ℓ} : {A : Type ℓ} (xs : List A) → 1 ≤ length xs → empty xs ≡ false
+pub not-empty {ℓ} : {A : Type ℓ} (xs : List A) → 1 ≤ length xs → empty xs ≡ false
 unfolding empty
 not-empty [] h = absurd (omega (arith, h))
 not-empty (x ∷ xs) h = refl

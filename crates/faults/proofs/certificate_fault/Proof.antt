@@ -14,7 +14,7 @@ slice-aggregate-policies-fault c = search needs
 policies-fault-requires : tie.Need-policies-fault-requires
 policies-fault-requires c κs =
     let h : length (c .before .before .args .c .policies) ≡ Limits.listed = search needs in
-    omega arith
+    λ l. omega arith
 
 returns : tie.Need-returns
 returns c = sym (listed-refused (c .before .before .before .before .args .c) (c .before .policies-fault .ensures) (c .if1 .taken))
@@ -30,7 +30,7 @@ mappings-fault-requires c κs =
     let a = c .before .before .before .before .before .before .before .before .args .c in
     let h : length (a .issuers) ≡ Limits.listed = search needs in
     let k : length (a .subjects) ≡ Limits.listed = search needs in
-    omega arith
+    (λ l. omega arith, λ l. omega arith)
 
 returns-2 : tie.Need-returns-2
 returns-2 c = c .mappings-fault .ensures ∙ sym (listed-passed (c .before .before .before .before .before .before .before .before .before .args .c) (c .before .before .before .before .before .before .policies-fault .ensures) (c .before .before .before .before .before .if1 .left))

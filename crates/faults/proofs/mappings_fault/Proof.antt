@@ -2,7 +2,7 @@
 use Prim.Native.Nat.{_≤_, _-_}
 use mathlib.Core.Path.{_≡_, refl, sym, ap, _∙_}
 use native.Mathlib.Omega.{arith}
-use lib.ListN.{take}
+use lib.ListN.{length, take}
 use lib.Seq.{slice}
 use Rattle.rules.specs.Layout.{pairs}
 use Rattle.rules.specs.Faults.{_or-else_, mappings-fault}
@@ -12,7 +12,7 @@ use Rattle.faults.proofs.mappings_fault.Tie as tie
 
 abbrev Inv-loop : tie.InvT-loop
 Inv-loop issuers subjects number i₀ i =
-    (i ≤ number) × (mappings-fault (pairs (take number issuers) (take number subjects)) ≡ mappings-fault (pairs (slice i number issuers) (slice i number subjects)))
+    (i ≤ number) × (number ≤ length issuers) × (number ≤ length subjects) × (mappings-fault (pairs (take number issuers) (take number subjects)) ≡ mappings-fault (pairs (slice i number issuers) (slice i number subjects)))
 
 abbrev μ-loop : tie.MeasureT-loop
 μ-loop issuers subjects number i₀ i = number - i
@@ -21,7 +21,7 @@ returns : tie.Need-returns Inv-loop μ-loop
 returns c = sym (counted-over _ (c .if1 .taken))
 
 loop-holds : tie.Need-loop-holds Inv-loop μ-loop
-loop-holds c = (omega arith, refl)
+loop-holds c = (omega arith, c .before .pre .0 (omega arith), c .before .pre .1 (omega arith), refl)
 
 mul-if2 : tie.Need-mul-if2 Inv-loop μ-loop
 mul-if2 c = omega arith
@@ -33,7 +33,7 @@ returns-2 : tie.Need-returns-2 Inv-loop μ-loop
 returns-2 c =
     let a = c .before .before .before .before .before .args in
     let i = c .before .before .before .loop .i in
-    sym (counted-within _ (omega arith) ∙ c .before .before .before .loop .inv .1 ∙ issuer-zero i (a .number) (a .issuers .now) (a .subjects .now) (omega arith) (omega arith) (omega arith) (c .if2 .taken))
+    sym (counted-within _ (omega arith) ∙ c .before .before .before .loop .inv .3 ∙ issuer-zero i (a .number) (a .issuers .now) (a .subjects .now) (omega arith) (omega arith) (omega arith) (c .if2 .taken))
 
 mul-if3 : tie.Need-mul-if3 Inv-loop μ-loop
 mul-if3 c = omega arith
@@ -45,7 +45,7 @@ returns-3 : tie.Need-returns-3 Inv-loop μ-loop
 returns-3 c =
     let a = c .before .before .before .before .before .before .before .args in
     let i = c .before .before .before .before .before .loop .i in
-    sym (counted-within _ (omega arith) ∙ c .before .before .before .before .before .loop .inv .1 ∙ subject-zero i (a .number) (a .issuers .now) (a .subjects .now) (omega arith) (omega arith) (omega arith) (c .before .before .if2 .left) (c .if3 .taken))
+    sym (counted-within _ (omega arith) ∙ c .before .before .before .before .before .loop .inv .3 ∙ subject-zero i (a .number) (a .issuers .now) (a .subjects .now) (omega arith) (omega arith) (omega arith) (c .before .before .if2 .left) (c .if3 .taken))
 
 add-i : tie.Need-add-i Inv-loop μ-loop
 add-i c = omega arith
@@ -57,12 +57,12 @@ loop-again : tie.Need-loop-again Inv-loop μ-loop
 loop-again c =
     let a = c .before .before .before .before .before .before .before .args in
     let i = c .before .before .before .before .before .loop .i in
-    (omega arith, c .before .before .before .before .before .loop .inv .1 ∙ pair-some i (a .number) (a .issuers .now) (a .subjects .now) (omega arith) (omega arith) (omega arith) (c .before .before .if2 .left) (c .if3 .left))
+    (omega arith, omega arith, omega arith, c .before .before .before .before .before .loop .inv .3 ∙ pair-some i (a .number) (a .issuers .now) (a .subjects .now) (omega arith) (omega arith) (omega arith) (c .before .before .if2 .left) (c .if3 .left))
 
 returns-4 : tie.Need-returns-4 Inv-loop μ-loop
 returns-4 c =
     let a = c .before .before .before .args in
-    sym (counted-within _ (omega arith) ∙ c .before .loop .inv .1 ∙ mappings-none (c .before .loop .i) (a .number) (a .issuers .now) (a .subjects .now) (omega arith))
+    sym (counted-within _ (omega arith) ∙ c .before .loop .inv .3 ∙ mappings-none (c .before .loop .i) (a .number) (a .issuers .now) (a .subjects .now) (omega arith))
 
 pub mappings-fault-spec : {M : Type 1} → statement M
 mappings-fault-spec =

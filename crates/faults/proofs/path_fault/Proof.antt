@@ -6,25 +6,29 @@ use lib.ListN.{length, length-map, take}
 use lib.Seq.{slice}
 use borrow.Author.Needs.{needs}
 use Rattle.rules.specs.Limits as Limits
-use Rattle.rules.specs.Faults.{path-fault, certificates-fault}
-use Rattle.faults.proofs.Laws.{n-none, n-over, n-within, n-refused, user-refused, user-passed, certificates-none, certificate-refused, certificate-passed}
+use Rattle.rules.specs.Faults.{n-fault, path-fault, certificates-fault}
+use Rattle.faults.proofs.Laws.{n-fits, n-refused, user-refused, user-passed, certificates-none, certificate-refused, certificate-passed}
 use Rattle.faults.proofs.path_fault.Statement.{statement}
 use Rattle.faults.proofs.path_fault.Tie as tie
 
 abbrev Inv-loop : tie.InvT-loop
-Inv-loop p n user-fault i₀ i = (i ≤ n) × (path-fault p ≡ certificates-fault (slice i n (p .certificates)))
+Inv-loop p n count-fault user-fault i₀ i = (i ≤ n) × (n ≤ Limits.certificates) × (path-fault p ≡ certificates-fault (slice i n (p .certificates)))
 
 abbrev μ-loop : tie.MeasureT-loop
-μ-loop p n user-fault i₀ i = n - i
+μ-loop p n count-fault user-fault i₀ i = n - i
 
 places : (c : tie.Start Inv-loop μ-loop) → length (c .args .t1 .certificates) ≡ Limits.certificates
 places c = simp length-map at (c .good .0 .1 .1 .1 .1 .1 .1 .1 .1 .0 .1 .0 .1)
 
-returns : tie.Need-returns Inv-loop μ-loop
-returns c = sym (n-refused (c .before .args .t1) (n-none (c .if1 .taken)))
+-- the number of certificates has no fault
+passed : (c : tie.Else1 Inv-loop μ-loop) → n-fault (c .before .before .args .t1 .«certificate_count») ≡ 0
+passed c = sym (c .before .n-fault .ensures) ∙ c .if1 .left
 
-returns-2 : tie.Need-returns-2 Inv-loop μ-loop
-returns-2 c = sym (n-refused (c .before .before .args .t1) (n-over (c .if2 .taken)))
+n-fault-requires : tie.Need-n-fault-requires Inv-loop μ-loop
+n-fault-requires c κs = tt
+
+returns : tie.Need-returns Inv-loop μ-loop
+returns c = sym (n-refused (c .before .before .args .t1) (c .before .n-fault .ensures) (c .if1 .taken))
 
 slice-aggregate-policies-fault : tie.Need-slice-aggregate-policies-fault Inv-loop μ-loop
 slice-aggregate-policies-fault c = search needs
@@ -32,15 +36,15 @@ slice-aggregate-policies-fault c = search needs
 policies-fault-requires : tie.Need-policies-fault-requires Inv-loop μ-loop
 policies-fault-requires c κs =
     let h : length (c .before .before .before .before .args .t1 .«user_policies») ≡ Limits.listed = search needs in
-    omega arith
+    λ l. omega arith
 
-returns-3 : tie.Need-returns-3 Inv-loop μ-loop
-returns-3 c =
-    sym (user-refused (c .before .before .before .before .before .before .args .t1) (n-within (c .before .before .before .before .before .if1 .left) (c .before .before .before .before .if2 .left)) (c .before .policies-fault .ensures) (c .if3 .taken))
+returns-2 : tie.Need-returns-2 Inv-loop μ-loop
+returns-2 c =
+    sym (user-refused (c .before .before .before .before .before .before .args .t1) (passed (c .before .before .before .before)) (c .before .policies-fault .ensures) (c .if2 .taken))
 
 loop-holds : tie.Need-loop-holds Inv-loop μ-loop
 loop-holds c =
-    (omega arith, user-passed (c .before .before .before .before .before .before .args .t1) (n-within (c .before .before .before .before .before .if1 .left) (c .before .before .before .before .if2 .left)) (c .before .policies-fault .ensures) (c .if3 .left))
+    (omega arith, n-fits _ (passed (c .before .before .before .before)), user-passed (c .before .before .before .before .before .before .args .t1) (passed (c .before .before .before .before)) (c .before .policies-fault .ensures) (c .if2 .left))
 
 mul-c : tie.Need-mul-c Inv-loop μ-loop
 mul-c c = omega arith
@@ -51,12 +55,12 @@ element-copy-out-c c = omega arith
 certificate-fault-requires : tie.Need-certificate-fault-requires Inv-loop μ-loop
 certificate-fault-requires c κs = tt
 
-returns-4 : tie.Need-returns-4 Inv-loop μ-loop
-returns-4 c =
+returns-3 : tie.Need-returns-3 Inv-loop μ-loop
+returns-3 c =
     let p = c .before .before .before .before .before .before .before .before .before .before .before .args .t1 in
     let at-loop = c .before .before .before .before .loop in
     let h : length (p .certificates) ≡ Limits.certificates = places (c .before .before .before .before .before .before .before .before .before .before .before) in
-    sym (at-loop .inv .1 ∙ certificate-refused (at-loop .i) (p .«certificate_count») (p .certificates) _ (omega arith) (omega arith) (c .before .certificate-fault .ensures) (c .if4 .taken))
+    sym (at-loop .inv .2 ∙ certificate-refused (at-loop .i) (p .«certificate_count») (p .certificates) _ (omega arith) (omega arith) (c .before .certificate-fault .ensures) (c .if3 .taken))
 
 add-i : tie.Need-add-i Inv-loop μ-loop
 add-i c = omega arith
@@ -69,12 +73,12 @@ loop-again c =
     let p = c .before .before .before .before .before .before .before .before .before .before .before .args .t1 in
     let at-loop = c .before .before .before .before .loop in
     let h : length (p .certificates) ≡ Limits.certificates = places (c .before .before .before .before .before .before .before .before .before .before .before) in
-    (omega arith, at-loop .inv .1 ∙ certificate-passed (at-loop .i) (p .«certificate_count») (p .certificates) _ (omega arith) (omega arith) (c .before .certificate-fault .ensures) (c .if4 .left))
+    (omega arith, omega arith, at-loop .inv .2 ∙ certificate-passed (at-loop .i) (p .«certificate_count») (p .certificates) _ (omega arith) (omega arith) (c .before .certificate-fault .ensures) (c .if3 .left))
 
-returns-5 : tie.Need-returns-5 Inv-loop μ-loop
-returns-5 c =
+returns-4 : tie.Need-returns-4 Inv-loop μ-loop
+returns-4 c =
     let p = c .before .before .before .before .before .before .before .before .args .t1 in
-    sym (c .before .loop .inv .1 ∙ certificates-none (c .before .loop .i) (p .«certificate_count») (p .certificates) (omega arith))
+    sym (c .before .loop .inv .2 ∙ certificates-none (c .before .loop .i) (p .«certificate_count») (p .certificates) (omega arith))
 
 pub path-fault-spec : {M : Type 1} → statement M
 path-fault-spec =
@@ -82,17 +86,17 @@ path-fault-spec =
     (tie.spec
     Inv-loop
     μ-loop
+    n-fault-requires
     returns
-    returns-2
     slice-aggregate-policies-fault
     policies-fault-requires
-    returns-3
+    returns-2
     loop-holds
     mul-c
     element-copy-out-c
     certificate-fault-requires
-    returns-4
+    returns-3
     add-i
     loop-less
     loop-again
-    returns-5)
+    returns-4)

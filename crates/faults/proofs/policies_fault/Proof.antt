@@ -4,7 +4,7 @@ use mathlib.Core.List.{[]}
 use mathlib.Core.Path.{_≡_, refl, sym, ap, _∙_}
 use mathlib.Core.Logic.{⊎-elim}
 use native.Mathlib.Omega.{arith}
-use lib.ListN.{take}
+use lib.ListN.{length, take}
 use lib.Seq.{slice}
 use Rattle.rules.specs.Faults.{policies-fault}
 use Rattle.faults.proofs.Laws.{counted-over, counted-within, fault-of, fault-zero, fault-user, fault-repeats, fault-new, policies-none, policy-refused, policy-passed}
@@ -13,7 +13,7 @@ use Rattle.faults.proofs.policies_fault.Tie as tie
 
 abbrev Inv-loop : tie.InvT-loop
 Inv-loop values count distinct i₀ i =
-    (i ≤ count) × (policies-fault (fault-of distinct) [] (take count values) ≡ policies-fault (fault-of distinct) (take i values) (slice i count values))
+    (i ≤ count) × (count ≤ length values) × (policies-fault (fault-of distinct) [] (take count values) ≡ policies-fault (fault-of distinct) (take i values) (slice i count values))
 
 abbrev μ-loop : tie.MeasureT-loop
 μ-loop values count distinct i₀ i = count - i
@@ -22,7 +22,7 @@ returns : tie.Need-returns Inv-loop μ-loop
 returns c = sym (counted-over _ (c .if1 .taken))
 
 loop-holds : tie.Need-loop-holds Inv-loop μ-loop
-loop-holds c = (omega arith, refl)
+loop-holds c = (omega arith, c .before .before .pre (omega arith), refl)
 
 mul-policy : tie.Need-mul-policy Inv-loop μ-loop
 mul-policy c = omega arith
@@ -34,7 +34,7 @@ returns-2 : tie.Need-returns-2 Inv-loop μ-loop
 returns-2 c =
     let a = c .before .before .before .before .before .before .args in
     let i = c .before .before .before .loop .i in
-    sym (counted-within _ (omega arith) ∙ c .before .before .before .loop .inv .1 ∙ policy-refused (a .distinct) i (a .count) (a .values .now) (omega arith) (omega arith) (fault-zero (a .distinct) (take i (a .values .now)) (c .if2 .taken)) (λ z. omega arith))
+    sym (counted-within _ (omega arith) ∙ c .before .before .before .loop .inv .2 ∙ policy-refused (a .distinct) i (a .count) (a .values .now) (omega arith) (omega arith) (fault-zero (a .distinct) (take i (a .values .now)) (c .if2 .taken)) (λ z. omega arith))
 
 seen-requires : tie.Need-seen-requires Inv-loop μ-loop
 seen-requires c κs = omega arith
@@ -45,7 +45,7 @@ returns-3 c =
     let at-loop = c .before .before .before .before .before .before .loop in
     sym
     (counted-within _ (omega arith)
-    ∙ at-loop .inv .1
+    ∙ at-loop .inv .2
     ∙ policy-refused (a .distinct) (at-loop .i) (a .count) (a .values .now) (omega arith) (omega arith)
     (fault-repeats (take (at-loop .i) (a .values .now)) (c .before .before .if3 .taken) (c .before .before .before .if2 .left) (sym (c .before .seen .ensures) ∙ c .if4 .taken))
     (λ z. omega arith))
@@ -65,12 +65,12 @@ loop-again c =
     ⊎-elim (λ w. fault-new before (w .0 .taken) (c .before .if2 .left) (sym (w .1 .ensures) ∙ w .2 .left))
     (λ w. fault-user before (w .left) (c .before .if2 .left))
     (c .if3 .came) in
-    (omega arith, at-loop .inv .1 ∙ policy-passed (a .distinct) (at-loop .i) (a .count) (a .values .now) (omega arith) (omega arith) passed)
+    (omega arith, omega arith, at-loop .inv .2 ∙ policy-passed (a .distinct) (at-loop .i) (a .count) (a .values .now) (omega arith) (omega arith) passed)
 
 returns-4 : tie.Need-returns-4 Inv-loop μ-loop
 returns-4 c =
     let a = c .before .before .before .before .args in
-    sym (counted-within _ (omega arith) ∙ c .before .loop .inv .1 ∙ policies-none (a .distinct) (c .before .loop .i) (a .count) (a .values .now) (omega arith))
+    sym (counted-within _ (omega arith) ∙ c .before .loop .inv .2 ∙ policies-none (a .distinct) (c .before .loop .i) (a .count) (a .values .now) (omega arith))
 
 pub policies-fault-spec : {M : Type 1} → statement M
 policies-fault-spec =

@@ -1,0 +1,128 @@
+-- Records handed over with known refusals: one table, and one claim that covers every row, by computation.
+use Prim.Native.Nat.{ℕ}
+use mathlib.Core.List.{List, [], _∷_, _++_, map}
+use mathlib.Core.Path.{_≡_, refl}
+use lib.ListN.{replicate}
+use Rattle.rules.specs.Sets.{each}
+use Rattle.given.specs.Faults.{record-fault}
+use Rattle.given.proofs.Notation.{given, listing}
+
+pub record Row : Type 0 where
+  pub numbers : List ℕ
+  pub fault : ℕ
+
+-- n, the user count and what follows it, the certificates, and the number expected
+row : ℕ → ℕ → List ℕ → List ℕ → ℕ → Row
+unfolding given
+row n u us cs k = record { numbers = given n u us cs; fault = k }
+
+-- a certificate with no fault: one policy and one pair
+good : List ℕ
+unfolding listing
+good = listing 1 1 (5 ∷ 5 ∷ 6 ∷ [])
+
+sixteen : List ℕ
+sixteen = 1 ∷ 2 ∷ 3 ∷ 4 ∷ 5 ∷ 6 ∷ 7 ∷ 8 ∷ 9 ∷ 10 ∷ 11 ∷ 12 ∷ 13 ∷ 14 ∷ 15 ∷ 16 ∷ []
+
+unfoldable pub rows : List Row
+unfolding row good sixteen listing each
+rows =
+    -- no fault: numbers after the record never matter
+    row 1 1 (30 ∷ []) (good ++ 0 ∷ 17 ∷ 0 ∷ []) 0
+    -- no fault: the record ends with its last number, a head or a subject
+    ∷ row 1 0 [] (listing 0 0 []) 0
+    ∷ row 2 1 (30 ∷ []) (good ++ good) 0
+    -- no fault: any flag and any skip value
+    ∷ record { numbers = 1 ∷ 2 ∷ 65535 ∷ 256 ∷ 0 ∷ 7 ∷ 0 ∷ 0 ∷ 65535 ∷ 257 ∷ 256 ∷ []; fault = 0 }
+    -- no fault: repeats among user policies and pairs, and of a policy in two certificates
+    ∷ row 2 2 (30 ∷ 30 ∷ []) (listing 1 2 (5 ∷ 5 ∷ 5 ∷ 6 ∷ 6 ∷ []) ++ good) 0
+    -- no fault: ten certificates, and sixteen of each list
+    ∷ row 10 16 sixteen (each {A = ℕ} (λ c. listing 16 16 (sixteen ++ sixteen ++ sixteen)) (replicate 10 0)) 0
+    -- an empty record, and one of four numbers
+    ∷ record { numbers = []; fault = 3 }
+    ∷ record { numbers = 1 ∷ 0 ∷ 0 ∷ 0 ∷ []; fault = 3 }
+    -- no certificate
+    ∷ row 0 0 [] [] 3
+    -- eleven certificates
+    ∷ row 11 0 [] (each {A = ℕ} (λ c. good) (replicate 11 0)) 3
+    -- seventeen user policies
+    ∷ row 1 17 (17 ∷ sixteen) good 3
+    -- the user policies one number short
+    ∷ row 1 2 (30 ∷ []) [] 3
+    -- a certificate's head one number short, and no head at all
+    ∷ row 1 0 [] (0 ∷ 0 ∷ 0 ∷ 0 ∷ 0 ∷ []) 3
+    ∷ row 1 0 [] [] 3
+    ∷ row 2 0 [] (good ++ 0 ∷ 0 ∷ 0 ∷ 0 ∷ 0 ∷ []) 3
+    -- seventeen policies
+    ∷ row 1 0 [] (listing 17 0 (17 ∷ sixteen)) 3
+    -- the policies one number short
+    ∷ row 1 0 [] (listing 2 0 (5 ∷ [])) 3
+    -- seventeen pairs
+    ∷ row 1 0 [] (listing 0 17 (replicate 34 5)) 3
+    -- the issuers one number short
+    ∷ row 1 0 [] (listing 0 2 (5 ∷ [])) 3
+    -- the subjects one number short
+    ∷ row 1 0 [] (listing 1 2 (5 ∷ 5 ∷ 5 ∷ 6 ∷ [])) 3
+    ∷ row 2 0 [] (good ++ listing 1 1 (5 ∷ 5 ∷ [])) 3
+    -- a user policy 0, the first and the last
+    ∷ row 1 2 (0 ∷ 30 ∷ []) good 4
+    ∷ row 1 2 (30 ∷ 0 ∷ []) good 4
+    -- a policy 0, the first and the last
+    ∷ row 1 0 [] (listing 2 0 (0 ∷ 5 ∷ [])) 4
+    ∷ row 1 0 [] (listing 2 0 (5 ∷ 0 ∷ [])) 4
+    -- an issuer 0, and a subject 0, in the first and the last pair
+    ∷ row 1 0 [] (listing 0 2 (0 ∷ 5 ∷ 6 ∷ 6 ∷ [])) 4
+    ∷ row 1 0 [] (listing 0 2 (5 ∷ 0 ∷ 6 ∷ 6 ∷ [])) 4
+    ∷ row 1 0 [] (listing 0 2 (5 ∷ 5 ∷ 0 ∷ 6 ∷ [])) 4
+    ∷ row 1 0 [] (listing 0 2 (5 ∷ 5 ∷ 6 ∷ 0 ∷ [])) 4
+    -- a policy repeated, and one not next to itself
+    ∷ row 1 0 [] (listing 2 0 (5 ∷ 5 ∷ [])) 5
+    ∷ row 1 0 [] (listing 3 0 (5 ∷ 6 ∷ 5 ∷ [])) 5
+    -- a fault of the last certificate, after the lists of the first
+    ∷ row 2 0 [] (good ++ listing 2 0 (5 ∷ 5 ∷ [])) 5
+    -- two faults: n before the user policies, 0 and 11
+    ∷ row 0 1 (0 ∷ []) [] 3
+    ∷ row 11 1 (0 ∷ []) (each {A = ℕ} (λ c. good) (replicate 11 0)) 3
+    -- two faults: n before the certificates
+    ∷ row 11 0 [] (each {A = ℕ} (λ c. listing 2 0 (5 ∷ 5 ∷ [])) (replicate 11 0)) 3
+    -- two faults: the user count before the user policies
+    ∷ row 1 17 (0 ∷ sixteen) good 3
+    -- two faults: user policies too few before a user policy 0
+    ∷ row 1 2 (0 ∷ []) [] 3
+    -- two faults: a user policy 0 before a certificate that is too short, and before its count and its policies
+    ∷ row 1 1 (0 ∷ []) [] 4
+    ∷ row 1 1 (0 ∷ []) (listing 17 0 (17 ∷ sixteen)) 4
+    ∷ row 1 1 (0 ∷ []) (listing 2 0 (5 ∷ 5 ∷ [])) 4
+    -- two faults: the policy count before the policies, 0 and repeated
+    ∷ row 1 0 [] (listing 17 0 (0 ∷ sixteen)) 3
+    ∷ row 1 0 [] (listing 17 0 (5 ∷ sixteen)) 3
+    -- two faults: policies too few before a policy 0 and before a repeat
+    ∷ row 1 0 [] (listing 2 0 (0 ∷ [])) 3
+    ∷ row 1 0 [] (listing 3 0 (5 ∷ 5 ∷ [])) 3
+    -- two faults: policy 0 before a repeat after it, and a repeat before policy 0 after it
+    ∷ row 1 0 [] (listing 3 0 (5 ∷ 0 ∷ 5 ∷ [])) 4
+    ∷ row 1 0 [] (listing 3 0 (5 ∷ 5 ∷ 0 ∷ [])) 5
+    -- two faults: the policies before the pairs' count, 0 and repeated
+    ∷ row 1 0 [] (listing 1 17 (0 ∷ replicate 34 5)) 4
+    ∷ row 1 0 [] (listing 2 17 (5 ∷ 5 ∷ replicate 34 5)) 5
+    -- two faults: the policies before pairs that are too few, 0 and repeated
+    ∷ row 1 0 [] (listing 1 1 (0 ∷ [])) 4
+    ∷ row 1 0 [] (listing 2 1 (5 ∷ 5 ∷ 6 ∷ [])) 5
+    -- two faults: the policies before the pairs
+    ∷ row 1 0 [] (listing 2 1 (5 ∷ 5 ∷ 0 ∷ 0 ∷ [])) 5
+    -- two faults: the pairs' count before the pairs
+    ∷ row 1 0 [] (listing 0 17 (replicate 34 0)) 3
+    -- two faults: pairs too few before an issuer 0 and before a subject 0
+    ∷ row 1 0 [] (listing 0 2 (0 ∷ 5 ∷ 6 ∷ [])) 3
+    ∷ row 1 0 [] (listing 0 2 (5 ∷ 5 ∷ 0 ∷ [])) 3
+    -- two faults: certificate 1's pairs before certificate 2 that is too short, and before its policies
+    ∷ row 2 0 [] (listing 0 1 (5 ∷ 0 ∷ [])) 4
+    ∷ row 2 0 [] (listing 0 1 (0 ∷ 5 ∷ []) ++ listing 2 0 (5 ∷ 5 ∷ [])) 4
+    -- two faults: certificate 1's policies before certificate 2's
+    ∷ row 2 0 [] (listing 2 0 (5 ∷ 5 ∷ []) ++ listing 1 0 (0 ∷ [])) 5
+    ∷ []
+
+-- Every record is refused as expected, or has no fault.
+pub known-record-faults : map (λ r. record-fault (r .numbers)) rows ≡ map (λ r. r .fault) rows
+unfolding record-fault rows
+known-record-faults = refl
