@@ -62,8 +62,7 @@ pub sound : (rec : List ℕ) (r : ℕ) (p : Path) → r ≡ length (packed p) �
 sound rec r p l t f w h =
     let st : Stands rec 0 (packed p) = ap (λ n. take n rec) (sym l) ∙ t in
     let back = stands-back rec p st in
-    let there = sym back in
-    (
+    let there = sym back in (
       record {
         stands = subst (λ q. Stands rec 0 (packed q)) there st;
         all = l ∙ ap (λ q. length (packed q)) there;
