@@ -16,8 +16,8 @@ use Rattle.rules.specs.Tree as Tree
 use Rattle.rules.specs.Judge.{outcome, path-judged, Bounded}
 use Rattle.agreement.proofs.Same.{WellFormed}
 use Rattle.sheet.proofs.WellFormed.{decoded-well-formed}
-use Rattle.judge.proofs.Numbered.{path-numbered}
-use Rattle.judge.proofs.Promise.{outcome-number, outcome-counts, Settled, well-formed-settled, empty-settled, path-tree, path-bounded}
+use Rattle.demands.proofs.Numbered.{path-numbered}
+use Rattle.demands.proofs.Promise.{outcome-number, outcome-counts, Settled, well-formed-settled, empty-settled, path-tree, path-bounded}
 
 -- a path value with no place for a certificate has none
 no-place : (p : StoredPath) → p .certificates ≡ [] → (path-of p) .certificates ≡ []

@@ -1,7 +1,10 @@
 // The judge and the sheet's codec for C and Rust: numbers and slices alone.
 ghost use mathlib.Core.Path.{_≡_};
 ghost use Rattle.rules.specs.Face.{Judged, sheet-exported, Rewritten, sheet-rewritten};
+ghost use Rattle.given.specs.Face.{record-exported, record-written, write-exported, Recorded, sheet-recorded};
 use crate::judge_sheet;
+use record::RECORD;
+use records::judge_record;
 use rules::DEPTHS;
 use rules::SHEET_BYTES;
 use rules::TABLE;
@@ -44,12 +47,54 @@ pub extern "C" fn skandrulo_rewrite_sheet(sheet: &[u8], buffer: &mut [u8]) -> u3
     if buffer.len() < SHEET_BYTES {
         return SHORT;
     }
-    let reading = reader::read(sheet);
-    let number = reading.number;
-    if number != 0 {
-        return number as u32;
+    let mut rec = [0u16; RECORD];
+    let next = reader::read_record(sheet, &mut rec);
+    if next.number != 0 {
+        return next.number as u32;
     }
-    let path = reading.path;
-    let written = writer::write(path, buffer);
-    256 * (written.length as u32)
+    256 * (writer::write_record(&rec, buffer) as u32)
+}
+
+// The judge on a record handed over: the number and 256 times the place. The counts go to the first eleven places of `counts`.
+// 7 where a table has fewer than 304 places or `counts` fewer than eleven: then nothing is written.
+#[no_mangle]
+pub extern "C" fn skandrulo_judge_record(
+    given: &[u16],
+    authority: &mut [u16],
+    user: &mut [u16],
+    counts: &mut [u16],
+) -> u32
+    ensures { λ r. ⌜ _≡_ {A = Judged} (record { result = r; authority = now (authority .exit); user = now (user .exit); counts = now (counts .exit) }) (record-exported (now (given .entry)) (now (authority .entry)) (now (user .entry)) (now (counts .entry))) ⌝ }
+{
+    if authority.len() < TABLE {
+        return SHORT;
+    }
+    if user.len() < TABLE {
+        return SHORT;
+    }
+    if counts.len() < DEPTHS {
+        return SHORT;
+    }
+    let answer = judge_record(given, authority, user);
+    let found = answer.counts;
+    sets::copy(counts, 0, &found);
+    (answer.number as u32) + 256 * (answer.place as u32)
+}
+
+// The sheet of a record's path, first in the buffer: the refusal, or 256 times the sheet's length.
+// 7 where the buffer has fewer than 1,044 bytes. After a refusal nothing is written.
+#[no_mangle]
+pub extern "C" fn skandrulo_write_record(given: &[u16], buffer: &mut [u8]) -> u32
+    ensures { λ r. ⌜ _≡_ {A = Rewritten} (record { result = r; buffer = now (buffer .exit) }) (write-exported (record-written (now (given .entry)) (now (buffer .entry)))) ⌝ }
+{
+    records::write_record(given, buffer)
+}
+
+// The record of a sheet's path, first in the lent one: the refusal, or 256 times the places that it takes.
+// 7 where the lent record has fewer places than the longest. After a refusal nothing is written.
+#[no_mangle]
+pub extern "C" fn skandrulo_read_record(sheet: &[u8], lent: &mut [u16]) -> u32
+    ensures { λ r. ⌜ _≡_ {A = Recorded} (record { result = r; places = now (lent .exit) }) (sheet-recorded (now (sheet .entry)) (now (lent .entry))) ⌝ }
+{
+    records::read_record(sheet, lent)
 }

@@ -11,8 +11,12 @@ ghost use Rattle.rules.specs.Layout.{path-of};
 ghost use Rattle.rules.specs.Sheet.{read-sheet, read};
 ghost use Rattle.rules.specs.Judge.{outcome, sheet-judged, path-judged, Bounded};
 ghost use Rattle.rules.specs.Face.{refused-answer};
+pub use c::skandrulo_judge_record;
 pub use c::skandrulo_judge_sheet;
+pub use c::skandrulo_read_record;
 pub use c::skandrulo_rewrite_sheet;
+pub use c::skandrulo_write_record;
+use record::RECORD;
 use rules::Answer;
 use rules::DEPTHS;
 use rules::Path;
@@ -46,13 +50,12 @@ pub fn judge_sheet(sheet: &[u8], authority: &mut [u16], user: &mut [u16]) -> Ans
     if user.len() < TABLE {
         return refused(TABLE_SHORT);
     }
-    let reading = reader::read(sheet);
-    let number = reading.number;
-    if number != 0 {
-        return refused(number);
+    let mut rec = [0u16; RECORD];
+    let next = reader::read_record(sheet, &mut rec);
+    if next.number != 0 {
+        return refused(next.number);
     }
-    let path = reading.path;
-    graph::judge(path, authority, user)
+    graph::judge_record(&mut rec, next.place, authority, user)
 }
 
 // The judge on a path handed over decoded, with the same promises; its refusals are 7, then 3, 4 and 5.

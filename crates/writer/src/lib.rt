@@ -107,6 +107,7 @@ pub fn write_record(rec: &[u16], buffer: &mut [u8]) -> usize
     requires { ⌜ Limits.sheet-bytes ≤ length (now buffer) ⌝ }
     ensures { λ r. ⌜ r ≡ length (sheet-of (unpacked (now (rec .entry)))) ⌝ }
     ensures { λ r. ⌜ now (buffer .exit) ≡ sheet-of (unpacked (now (rec .entry))) ++ drop (length (sheet-of (unpacked (now (rec .entry))))) (now (buffer .entry)) ⌝ }
+    ensures { λ r. ⌜ r ≤ Limits.sheet-bytes ⌝ }
 {
     let end = write_path(rec, buffer);
     let bytes = (end + 7) / 8;

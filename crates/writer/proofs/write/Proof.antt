@@ -80,7 +80,7 @@ returns-3 c =
     let b = sound k in
     let a = begun b .args in
     let w = c .before .before .write-record .ensures in
-    as-sheet (a .p) (a .buffer .now) (room b) (no-fault b) (w .0 ∙ ap (λ q. length (sheet-of q)) (path-is k)) (w .1 ∙ ap (λ q. sheet-of q ++ drop (length (sheet-of q)) (a .buffer .now)) (path-is k))
+    as-sheet (a .p) (a .buffer .now) (room b) (no-fault b) (w .0 ∙ ap (λ q. length (sheet-of q)) (path-is k)) (w .1 .0 ∙ ap (λ q. sheet-of q ++ drop (length (sheet-of q)) (a .buffer .now)) (path-is k))
 
 pub write-spec : {M : Type 1} → statement M
 write-spec =

@@ -63,8 +63,10 @@ returns : tie.Need-returns
 returns c =
     let w = c .before .before .before .before .before .before in
     let b = begun w in
-    let puts = w .write-path .ensures in
-    (length-written (whole b) (b .args .buffer .now) (bytes w) (room b) puts, bytes-written (whole b) (b .args .buffer .now) (bytes w) (room b) puts (c .before .before .write-field .ensures))
+    let puts = w .write-path .ensures in (
+      length-written (whole b) (b .args .buffer .now) (bytes w) (room b) puts,
+      (bytes-written (whole b) (b .args .buffer .now) (bytes w) (room b) puts (c .before .before .write-field .ensures), omega (arith, end-within w)),
+    )
 
 pub write-record-spec : {M : Type 1} → statement M
 write-record-spec =

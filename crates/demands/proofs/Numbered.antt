@@ -26,10 +26,10 @@ use Rattle.laws.proofs.Sets.{by-cases}
 
 -- the faults of a field are at most 5
 
-abbrev Most : (ℕ → ℕ) → Type 0
+abbrev pub Most : (ℕ → ℕ) → Type 0
 Most fault = (v : ℕ) → fault v ≤ Numbers.policy-repeats
 
-pick-most : (n : ℕ) (b : Bool) (x y : ℕ) → x ≤ n → y ≤ n → pick b x y ≤ n
+pub pick-most : (n : ℕ) (b : Bool) (x y : ℕ) → x ≤ n → y ≤ n → pick b x y ≤ n
 unfolding pick
 pick-most n true x y h i = h
 pick-most n false x y h i = i
@@ -38,11 +38,11 @@ edition-most : Most Faults.edition-fault
 unfolding Faults.edition-fault
 edition-most v = pick-most _ (eqb v 1) 0 Numbers.wrong-edition (omega arith) (omega arith)
 
-n-most : Most Faults.n-fault
+pub n-most : Most Faults.n-fault
 unfolding Faults.n-fault
 n-most v = pick-most _ (eqb v 0 || ltb Limits.certificates v) Numbers.wrong-count 0 (omega arith) (omega arith)
 
-count-most : Most Faults.count-fault
+pub count-most : Most Faults.count-fault
 unfolding Faults.count-fault
 count-most v = pick-most _ (ltb Limits.listed v) Numbers.wrong-count 0 (omega arith) (omega arith)
 
@@ -54,11 +54,11 @@ policy-most : Most Faults.policy-fault
 unfolding Faults.policy-fault
 policy-most v = pick-most _ (eqb v 0) Numbers.policy-zero 0 (omega arith) (omega arith)
 
-user-most : (before : List ℕ) → Most (Faults.user-fault before)
+pub user-most : (before : List ℕ) → Most (Faults.user-fault before)
 unfolding Faults.user-fault
 user-most before v = policy-most v
 
-listed-most : (before : List ℕ) → Most (Faults.listed-fault before)
+pub listed-most : (before : List ℕ) → Most (Faults.listed-fault before)
 unfolding Faults.listed-fault
 listed-most before v =
     pick-most _ (eqb v 0) Numbers.policy-zero (pick (v ∈ before) Numbers.policy-repeats 0) (omega arith)
@@ -202,7 +202,7 @@ unfolding after-reading
 after-most A U (refuses k h) = refusal-most (suc k) A U (omega arith)
 after-most A U (reads {a = p}) = verdict-most p A U
 
-short-most : (A U : List ℕ) (o : Outcome) → o .number ≤ Numbers.user-empty → (unless-short A U o) .number ≤ Numbers.user-empty
+pub short-most : (A U : List ℕ) (o : Outcome) → o .number ≤ Numbers.user-empty → (unless-short A U o) .number ≤ Numbers.user-empty
 unfolding unless-short pick
 short-most A U o h = by-cases (ltb (length A) Limits.table || ltb (length U) Limits.table) (λ e. rw e (refusal-most Numbers.table-short A U (omega arith))) (λ e. rw e h)
 
@@ -212,17 +212,17 @@ sheet-numbered s A U = short-most A U (after-reading Graph.judged (read-sheet s)
 
 -- decoded paths
 
-or-most : (f g : ℕ) → f ≤ Numbers.policy-repeats → g ≤ Numbers.policy-repeats → (f or-else g) ≤ Numbers.policy-repeats
+pub or-most : (f g : ℕ) → f ≤ Numbers.policy-repeats → g ≤ Numbers.policy-repeats → (f or-else g) ≤ Numbers.policy-repeats
 unfolding _or-else_
 or-most zero g h i = i
 or-most (suc f) g h i = h
 
-policies-fault-most : (fault : List ℕ → ℕ → ℕ) → ((before : List ℕ) → Most (fault before)) → (before ps : List ℕ) → Faults.policies-fault fault before ps ≤ Numbers.policy-repeats
+pub policies-fault-most : (fault : List ℕ → ℕ → ℕ) → ((before : List ℕ) → Most (fault before)) → (before ps : List ℕ) → Faults.policies-fault fault before ps ≤ Numbers.policy-repeats
 unfolding Faults.policies-fault
 policies-fault-most fault h before [] = omega arith
 policies-fault-most fault h before (p ∷ ps) = or-most (fault before p) _ (h before p) (policies-fault-most fault h (before ++ (p ∷ [])) ps)
 
-mappings-fault-most : (ms : List Mapping) → Faults.mappings-fault ms ≤ Numbers.policy-repeats
+pub mappings-fault-most : (ms : List Mapping) → Faults.mappings-fault ms ≤ Numbers.policy-repeats
 unfolding Faults.mappings-fault
 mappings-fault-most [] = omega arith
 mappings-fault-most (m ∷ ms) = or-most (Faults.policy-fault (m .issuer)) _ (policy-most (m .issuer)) (or-most (Faults.policy-fault (m .subject)) _ (policy-most (m .subject)) (mappings-fault-most ms))
@@ -247,7 +247,7 @@ path-fault-most p =
     (or-most _ _ (policies-fault-most Faults.user-fault user-most [] ((path-of p) .user-list))
     (certificates-fault-most (take (p .«certificate_count») (p .certificates)))))
 
-fault-most : (f : ℕ) (p : Path) (A U : List ℕ) → f ≤ Numbers.policy-repeats → (unless-fault f (Graph.judged p) A U) .number ≤ Numbers.user-empty
+pub fault-most : (f : ℕ) (p : Path) (A U : List ℕ) → f ≤ Numbers.policy-repeats → (unless-fault f (Graph.judged p) A U) .number ≤ Numbers.user-empty
 unfolding unless-fault
 fault-most zero p A U h = verdict-most p A U
 fault-most (suc f) p A U h = refusal-most (suc f) A U (omega arith)

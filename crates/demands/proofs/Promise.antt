@@ -67,7 +67,7 @@ unfolding placed
 placed-0 m xs i = append-0 xs (m - length xs) i
 
 -- zeros keep the bound
-bounded-refusal : (k : ℕ) (A U : List ℕ) (p : Path) → Bounded ((refusal k A U) .counts) p
+pub bounded-refusal : (k : ℕ) (A U : List ℕ) (p : Path) → Bounded ((refusal k A U) .counts) p
 unfolding refusal
 bounded-refusal k A U p i h = omega (arith, replicate-0 Limits.depths i)
 
@@ -76,7 +76,7 @@ unfolding verdict
 bounded-verdict p w A U zero h = absurd (omega arith)
 bounded-verdict p w A U (suc d) h = omega (arith, placed-0 Limits.depths ((Graph.judged p) .counts) (suc d), w .bound d)
 
-unless-short-all {ℓ} : (P : Outcome → Type ℓ) (A U : List ℕ) (o : Outcome) → P (refusal Numbers.table-short A U) → P o → P (unless-short A U o)
+pub unless-short-all {ℓ} : (P : Outcome → Type ℓ) (A U : List ℕ) (o : Outcome) → P (refusal Numbers.table-short A U) → P o → P (unless-short A U o)
 unfolding unless-short pick
 unless-short-all P A U o x y = by-cases (ltb (length A) Limits.table || ltb (length U) Limits.table) (λ e. rw e x) (λ e. rw e y)
 
@@ -104,7 +104,7 @@ sheet-bounded s A U p at e w =
 
 -- decoded paths
 
-fault-tree : (f : ℕ) (p : Path) (A U : List ℕ) → (f ≡ 0 → Settled p) → unless-fault f (Graph.judged p) A U ≡ unless-fault f (Tree.judged p) A U
+pub fault-tree : (f : ℕ) (p : Path) (A U : List ℕ) → (f ≡ 0 → Settled p) → unless-fault f (Graph.judged p) A U ≡ unless-fault f (Tree.judged p) A U
 unfolding unless-fault
 fault-tree zero p A U w = ap (λ a. verdict a A U) ((w refl) .same)
 fault-tree (suc f) p A U w = refl
@@ -113,7 +113,7 @@ pub path-tree : (p : StoredPath) (A U : List ℕ) → (path-fault p ≡ 0 → Se
 unfolding path-judged
 path-tree p A U w = ap (unless-short A U) (fault-tree (path-fault p) (path-of p) A U w)
 
-fault-bounded : (f : ℕ) (p : Path) (A U : List ℕ) → (f ≡ 0 → Settled p) → Bounded ((unless-fault f (Graph.judged p) A U) .counts) p
+pub fault-bounded : (f : ℕ) (p : Path) (A U : List ℕ) → (f ≡ 0 → Settled p) → Bounded ((unless-fault f (Graph.judged p) A U) .counts) p
 unfolding unless-fault
 fault-bounded zero p A U w = bounded-verdict p (w refl) A U
 fault-bounded (suc f) p A U w = bounded-refusal (suc f) A U p

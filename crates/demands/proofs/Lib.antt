@@ -1,0 +1,4 @@
+pub mod Numbered
+pub mod Promise
+pub mod Outcomes
+pub mod Exported
