@@ -1,7 +1,7 @@
 -- Reading a sheet into its record and writing the record gives the sheet.
 use Prim.Native.Nat.{ℕ, _*_, _≤_, _<_}
 use mathlib.Core.List.{List, _++_}
-use mathlib.Core.Path.{_≡_, refl, sym, ap, _∙_, subst}
+use mathlib.Core.Path.{_≡_, refl, sym, ap, _∙_}
 use borrow.Author.Tests.{lt-ltb, le-ltb}
 use lib.ListN.{length, drop}
 use Rattle.rules.specs.Limits as Limits
@@ -12,7 +12,6 @@ use Rattle.rules.specs.Sheet.{refused, read, read-sheet, sheet-of}
 use Rattle.rules.specs.Face.{Rewritten, rewritten-as, sheet-rewritten}
 use Rattle.sheet.proofs.Bits.{Bytes}
 use Rattle.sheet.proofs.Sheet.{written-read}
-use Rattle.sheet.proofs.Longest.{accepted-fits}
 
 abbrev pub rewritten : ℕ → List ℕ → Rewritten
 rewritten r B = record { result = r; buffer = B }
@@ -46,7 +45,3 @@ module _ (s B : List ℕ) (h : Limits.sheet-bytes ≤ length B) where
     rewrites n B′ l d =
         (λ i. rewritten (256 * l i) (d i)) ∙ ap (λ x. rewritten (256 * length x) (x ++ drop (length x) B)) again
         ∙ sym (long ∙ ap (λ y. rewritten-as y s B) e ∙ as-read p at)
-
-    -- the length is that of a sheet, which has at most 1,044 bytes
-    pub length-fits : (n : ℕ) → n ≡ length (sheet-of q) → n ≤ Limits.sheet-bytes
-    length-fits n l = subst (λ m. m ≤ Limits.sheet-bytes) (sym (l ∙ ap length again)) (accepted-fits s p at e)

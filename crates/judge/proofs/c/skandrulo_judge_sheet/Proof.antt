@@ -1,21 +1,23 @@
--- `skandrulo_judge_sheet` gives the outcome of the judge on sheets as a number and three slices (Exported).
+-- `skandrulo_judge_sheet` gives the outcome of the judge on sheets as a number and three slices (demands/proofs/Exported).
 use native.Mathlib.Omega.{arith}
-use mathlib.Core.Path.{_≡_}
+use mathlib.Core.Path.{_≡_, _∙_}
 use lib.ListN.{length}
 use Rattle.rules.specs.Limits as Limits
-use Rattle.judge.proofs.Exported.{short-authority, short-user, short-counts, exports}
+use Rattle.demands.proofs.Exported.{short-authority, short-user, short-counts, exports}
+use Rattle.judge.proofs.Sheets.{sheet-long}
+use Rattle.judge.proofs.Exported.{sheet-export}
 use borrow.Author.Needs.{needs}
 use Rattle.judge.proofs.c.skandrulo_judge_sheet.Statement.{statement}
 use Rattle.judge.proofs.c.skandrulo_judge_sheet.Tie as tie
 
 returns : tie.Need-returns
-returns c = short-authority _ _ _ _ (c .if1 .taken)
+returns c = short-authority _ _ _ _ (c .if1 .taken) ∙ sheet-export _ _ _ _
 
 returns-2 : tie.Need-returns-2
-returns-2 c = short-user _ _ _ _ (c .if2 .taken)
+returns-2 c = short-user _ _ _ _ (c .if2 .taken) ∙ sheet-export _ _ _ _
 
 returns-3 : tie.Need-returns-3
-returns-3 c = short-counts _ _ _ _ (c .if3 .taken)
+returns-3 c = short-counts _ _ _ _ (c .if3 .taken) ∙ sheet-export _ _ _ _
 
 judge-sheet-requires : tie.Need-judge-sheet-requires
 judge-sheet-requires c κs = search needs
@@ -48,7 +50,12 @@ same-length-3 : tie.Need-same-length-3
 same-length-3 c = search needs
 
 returns-4 : tie.Need-returns-4
-returns-4 c = exports _ _ _ _ _ _ _ _ (c .before .before .before .before .before .before .before .before .before .before .before .before .judge-sheet .ensures .1 .0) (search needs) (c .before .before .before .before .copy .ensures .1) (c .before .before .before .before .before .before .before .before .before .before .before .before .before .before .before .before .before .if1 .left) (c .before .before .before .before .before .before .before .before .before .before .before .before .before .before .before .before .if2 .left) (c .before .before .before .before .before .before .before .before .before .before .before .before .before .before .before .if3 .left)
+returns-4 c =
+    let j = c .before .before .before .before .before .before .before .before .before .before .before .before .judge-sheet in
+    let k = c .before .before .before .before .before .before .before .before .before .before .before .before .before .before .before in
+    let a = k .before .before .if1 .left in
+    let u = k .before .if2 .left in
+    exports _ _ _ _ _ _ _ _ (j .ensures .1 .0 ∙ sheet-long _ _ _ a u) (search needs) (c .before .before .before .before .copy .ensures .1) a u (k .if3 .left) ∙ sheet-export _ _ _ _
 
 pub skandrulo-judge-sheet-spec : {M : Type 1} → statement M
 skandrulo-judge-sheet-spec =
