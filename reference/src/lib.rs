@@ -13,6 +13,7 @@ pub mod known;
 pub mod lent;
 pub mod path;
 pub mod random;
+pub mod record;
 pub mod sheet;
 pub mod stack;
 pub mod tree;
