@@ -18,6 +18,31 @@ extern "C" {
         buffer: *mut u8,
         buffer_len: usize,
     ) -> u32;
+
+    fn skandrulo_judge_record(
+        record: *const u16,
+        record_len: usize,
+        authority: *mut u16,
+        authority_len: usize,
+        user: *mut u16,
+        user_len: usize,
+        counts: *mut u16,
+        counts_len: usize,
+    ) -> u32;
+
+    fn skandrulo_write_record(
+        record: *const u16,
+        record_len: usize,
+        buffer: *mut u8,
+        buffer_len: usize,
+    ) -> u32;
+
+    fn skandrulo_read_record(
+        sheet: *const u8,
+        sheet_len: usize,
+        record: *mut u16,
+        record_len: usize,
+    ) -> u32;
 }
 
 /// The number and place that the proved judge returned.
@@ -27,9 +52,10 @@ pub struct Judged {
     pub place: usize,
 }
 
-/// The number and length that the proved writer returned.
+/// The number that the proved reader or writer returned, and the length of
+/// what it wrote: a sheet's bytes, or a record's places.
 #[derive(Clone, Copy, Debug, PartialEq, Eq)]
-pub struct Rewritten {
+pub struct Written {
     pub number: u8,
     pub length: usize,
 }
@@ -44,7 +70,7 @@ pub fn judge_sheet(
 ) -> Judged {
     // SAFETY: each pointer is passed with the length of the slice it comes
     // from, the slices do not overlap, and the function keeps none of them.
-    let packed = unsafe {
+    judged(unsafe {
         skandrulo_judge_sheet(
             sheet.as_ptr(),
             sheet.len(),
@@ -55,19 +81,65 @@ pub fn judge_sheet(
             counts.as_mut_ptr(),
             counts.len(),
         )
-    };
+    })
+}
+
+/// Judges the path of a record, in the same way.
+pub fn judge_record(
+    record: &[u16],
+    authority: &mut [u16],
+    user: &mut [u16],
+    counts: &mut [u16],
+) -> Judged {
+    // SAFETY: as above.
+    judged(unsafe {
+        skandrulo_judge_record(
+            record.as_ptr(),
+            record.len(),
+            authority.as_mut_ptr(),
+            authority.len(),
+            user.as_mut_ptr(),
+            user.len(),
+            counts.as_mut_ptr(),
+            counts.len(),
+        )
+    })
+}
+
+/// Reads a sheet and writes its path again into `buffer`.
+pub fn rewrite_sheet(sheet: &[u8], buffer: &mut [u8]) -> Written {
+    // SAFETY: as above.
+    written(unsafe {
+        skandrulo_rewrite_sheet(sheet.as_ptr(), sheet.len(), buffer.as_mut_ptr(), buffer.len())
+    })
+}
+
+/// Writes the sheet of a record's path into `buffer`.
+pub fn write_record(record: &[u16], buffer: &mut [u8]) -> Written {
+    // SAFETY: as above.
+    written(unsafe {
+        skandrulo_write_record(record.as_ptr(), record.len(), buffer.as_mut_ptr(), buffer.len())
+    })
+}
+
+/// Reads a sheet and puts the record of its path into `record`.
+pub fn read_record(sheet: &[u8], record: &mut [u16]) -> Written {
+    // SAFETY: as above.
+    written(unsafe {
+        skandrulo_read_record(sheet.as_ptr(), sheet.len(), record.as_mut_ptr(), record.len())
+    })
+}
+
+/// A judge's result.
+fn judged(packed: u32) -> Judged {
     let (number, place) = unpack(packed);
     Judged { number, place }
 }
 
-/// Reads a sheet and writes its path again into `buffer`.
-pub fn rewrite_sheet(sheet: &[u8], buffer: &mut [u8]) -> Rewritten {
-    // SAFETY: as above.
-    let packed = unsafe {
-        skandrulo_rewrite_sheet(sheet.as_ptr(), sheet.len(), buffer.as_mut_ptr(), buffer.len())
-    };
+/// A reader's or writer's result.
+fn written(packed: u32) -> Written {
     let (number, length) = unpack(packed);
-    Rewritten { number, length }
+    Written { number, length }
 }
 
 /// Parts a returned value: number + 256 * the other part.

@@ -13,6 +13,7 @@ pub mod known;
 pub mod lent;
 pub mod path;
 pub mod random;
+pub mod random_record;
 pub mod record;
 pub mod sheet;
 pub mod stack;

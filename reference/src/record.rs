@@ -40,6 +40,17 @@ pub fn numbers(path: &Path) -> Vec<u16> {
     numbers
 }
 
+/// The places at which a path's certificates start in its record.
+pub fn starts(path: &Path) -> Vec<usize> {
+    let mut next = HEAD + path.user.len();
+    let mut starts = Vec::new();
+    for certificate in &path.certificates {
+        starts.push(next);
+        next += CERTIFICATE_HEAD + certificate.policies.len() + 2 * certificate.mappings.len();
+    }
+    starts
+}
+
 /// "0 if absent, else the value and 1"
 pub fn skip_number(skip: Option<u8>) -> u16 {
     skip.map_or(0, |value| u16::from(value) + 1)
@@ -161,6 +172,11 @@ mod tests {
         for row in known::rows() {
             assert_eq!(path_of(&numbers(&row.path)), Ok(row.path), "{}", row.name);
         }
+    }
+
+    #[test]
+    fn the_certificates_of_h_start_after_the_head_and_after_each_other() {
+        assert_eq!(starts(&path_of(&H_50).unwrap()), [6, 15]);
     }
 
     #[test]
