@@ -186,16 +186,18 @@ fn put_skip(fields: &mut Vec<Field>, skip: Option<u8>) {
 /// Packs fields "most significant bit first, no gaps", then "zero bits to the
 /// end of the byte". Bits above a field's width are dropped.
 pub fn pack(fields: &[Field]) -> Vec<u8> {
-    let mut sheet = Vec::new();
-    let mut used = 0;
+    let mut sheet = Vec::with_capacity(LONGEST);
+    let (mut bits, mut held) = (0u32, 0);
     for &(value, width) in fields {
-        for bit in (0..width).rev() {
-            if used % 8 == 0 {
-                sheet.push(0);
-            }
-            sheet[used / 8] |= ((value >> bit & 1) as u8) << (7 - used % 8);
-            used += 1;
+        bits = bits << width | u32::from(value) & ((1 << width) - 1);
+        held += width;
+        while held >= 8 {
+            held -= 8;
+            sheet.push((bits >> held) as u8);
         }
+    }
+    if held > 0 {
+        sheet.push((bits << (8 - held)) as u8);
     }
     sheet
 }
