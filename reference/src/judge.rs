@@ -60,6 +60,20 @@ pub struct Written {
     pub length: usize,
 }
 
+/// A function below that judges: what is judged, then the authority table, the
+/// user table and the counts.
+pub type Judging<I> = fn(&[I], &mut [u16], &mut [u16], &mut [u16]) -> Judged;
+
+/// A function below that reads one slice and writes another.
+pub type Writing<I, O> = fn(&[I], &mut [O]) -> Written;
+
+/// A function of the library that judges.
+type Judge<I> =
+    unsafe extern "C" fn(*const I, usize, *mut u16, usize, *mut u16, usize, *mut u16, usize) -> u32;
+
+/// A function of the library that reads one slice and writes another.
+type Write<I, O> = unsafe extern "C" fn(*const I, usize, *mut O, usize) -> u32;
+
 /// Judges a sheet. The sets stand in `authority` and `user`, the depth counts
 /// in the first 11 places of `counts`.
 pub fn judge_sheet(
@@ -68,20 +82,7 @@ pub fn judge_sheet(
     user: &mut [u16],
     counts: &mut [u16],
 ) -> Judged {
-    // SAFETY: each pointer is passed with the length of the slice it comes
-    // from, the slices do not overlap, and the function keeps none of them.
-    judged(unsafe {
-        skandrulo_judge_sheet(
-            sheet.as_ptr(),
-            sheet.len(),
-            authority.as_mut_ptr(),
-            authority.len(),
-            user.as_mut_ptr(),
-            user.len(),
-            counts.as_mut_ptr(),
-            counts.len(),
-        )
-    })
+    judge(skandrulo_judge_sheet, sheet, authority, user, counts)
 }
 
 /// Judges the path of a record, in the same way.
@@ -91,11 +92,38 @@ pub fn judge_record(
     user: &mut [u16],
     counts: &mut [u16],
 ) -> Judged {
-    // SAFETY: as above.
-    judged(unsafe {
-        skandrulo_judge_record(
-            record.as_ptr(),
-            record.len(),
+    judge(skandrulo_judge_record, record, authority, user, counts)
+}
+
+/// Reads a sheet and writes its path again into `buffer`.
+pub fn rewrite_sheet(sheet: &[u8], buffer: &mut [u8]) -> Written {
+    write(skandrulo_rewrite_sheet, sheet, buffer)
+}
+
+/// Writes the sheet of a record's path into `buffer`.
+pub fn write_record(record: &[u16], buffer: &mut [u8]) -> Written {
+    write(skandrulo_write_record, record, buffer)
+}
+
+/// Reads a sheet and puts the record of its path into `record`.
+pub fn read_record(sheet: &[u8], record: &mut [u16]) -> Written {
+    write(skandrulo_read_record, sheet, record)
+}
+
+/// Calls a function of the library that judges.
+fn judge<I>(
+    function: Judge<I>,
+    input: &[I],
+    authority: &mut [u16],
+    user: &mut [u16],
+    counts: &mut [u16],
+) -> Judged {
+    // SAFETY: each pointer is passed with the length of the slice it comes
+    // from, the slices do not overlap, and the function keeps none of them.
+    let packed = unsafe {
+        function(
+            input.as_ptr(),
+            input.len(),
             authority.as_mut_ptr(),
             authority.len(),
             user.as_mut_ptr(),
@@ -103,41 +131,16 @@ pub fn judge_record(
             counts.as_mut_ptr(),
             counts.len(),
         )
-    })
-}
-
-/// Reads a sheet and writes its path again into `buffer`.
-pub fn rewrite_sheet(sheet: &[u8], buffer: &mut [u8]) -> Written {
-    // SAFETY: as above.
-    written(unsafe {
-        skandrulo_rewrite_sheet(sheet.as_ptr(), sheet.len(), buffer.as_mut_ptr(), buffer.len())
-    })
-}
-
-/// Writes the sheet of a record's path into `buffer`.
-pub fn write_record(record: &[u16], buffer: &mut [u8]) -> Written {
-    // SAFETY: as above.
-    written(unsafe {
-        skandrulo_write_record(record.as_ptr(), record.len(), buffer.as_mut_ptr(), buffer.len())
-    })
-}
-
-/// Reads a sheet and puts the record of its path into `record`.
-pub fn read_record(sheet: &[u8], record: &mut [u16]) -> Written {
-    // SAFETY: as above.
-    written(unsafe {
-        skandrulo_read_record(sheet.as_ptr(), sheet.len(), record.as_mut_ptr(), record.len())
-    })
-}
-
-/// A judge's result.
-fn judged(packed: u32) -> Judged {
+    };
     let (number, place) = unpack(packed);
     Judged { number, place }
 }
 
-/// A reader's or writer's result.
-fn written(packed: u32) -> Written {
+/// Calls a function of the library that reads one slice and writes another.
+fn write<I, O>(function: Write<I, O>, input: &[I], output: &mut [O]) -> Written {
+    // SAFETY: as above.
+    let packed =
+        unsafe { function(input.as_ptr(), input.len(), output.as_mut_ptr(), output.len()) };
     let (number, length) = unpack(packed);
     Written { number, length }
 }

@@ -2,6 +2,8 @@
 //! document 01 and RFC 9618 alone.
 
 pub mod answer;
+#[cfg(feature = "library")]
+pub mod beside;
 pub mod counters;
 pub mod decoded;
 pub mod everyday;

@@ -8,10 +8,11 @@ use std::fmt::Debug;
 use std::hint::black_box;
 use std::time::Instant;
 
-use reference::answer::{self, Answer, DEPTHS, PLACES};
+use reference::answer::{DEPTHS, PLACES};
+use reference::beside::{Judges, JUDGE_RECORD, JUDGE_SHEET};
 use reference::everyday::{self, Everyday};
 use reference::harm::HARMS;
-use reference::judge::{self, Judged, Written};
+use reference::judge::{self, Writing, Written};
 use reference::path::Path;
 use reference::random::{self, Full, Random, FULL_KINDS};
 use reference::{record, sheet, tree};
@@ -30,16 +31,6 @@ type Verdict = (u8, usize);
 
 /// The verdict on a path that is valid for policy.
 const VALID: Verdict = (0, 0);
-
-/// The plain judge and the proved one, of sheets or of records.
-struct Judges<I> {
-    plain: fn(&[I], &mut [u16], &mut [u16]) -> Answer,
-    proved: fn(&[I], &mut [u16], &mut [u16], &mut [u16]) -> Judged,
-}
-
-const OF_SHEETS: Judges<u8> = Judges { plain: answer::judge_sheet, proved: judge::judge_sheet };
-
-const OF_RECORDS: Judges<u16> = Judges { plain: answer::judge_record, proved: judge::judge_record };
 
 /// The tables lent to one judge for all runs on one input.
 #[derive(Debug, PartialEq)]
@@ -92,7 +83,7 @@ fn judging<I>(judges: &Judges<I>, input: &[I], n: usize, verdict: Verdict) -> Ti
 fn measure(paths: &[Path], verdict: Verdict) -> Times {
     let mut sum = Times::default();
     for path in paths {
-        let times = judging(&OF_SHEETS, &sheet::write(path), path.certificates.len(), verdict);
+        let times = judging(&JUDGE_SHEET, &sheet::write(path), path.certificates.len(), verdict);
         sum.plain += times.plain;
         sum.proved += times.proved;
     }
@@ -107,7 +98,7 @@ fn writing<I, O: Copy + Default + Debug + PartialEq>(
     input: &[I],
     places: usize,
     plain: fn(&[I]) -> Vec<O>,
-    proved: fn(&[I], &mut [O]) -> Written,
+    proved: Writing<I, O>,
 ) -> Times {
     let mut lent = vec![O::default(); places];
     let expected = plain(input);
@@ -314,7 +305,7 @@ fn print_records(paths: &[Named]) {
     print_head(&["record", "places"]);
     for (name, path) in paths {
         let record = record::numbers(path);
-        let times = judging(&OF_RECORDS, &record, path.certificates.len(), VALID);
+        let times = judging(&JUDGE_RECORD, &record, path.certificates.len(), VALID);
         print_row(&[name.clone(), record.len().to_string()], &times);
     }
 }

@@ -7,7 +7,7 @@ use std::process::ExitCode;
 
 use reference::answer::{Answer, DEPTHS, PLACES};
 use reference::harm::HARMS;
-use reference::judge::{self, Judged, Written};
+use reference::judge::{self, Judged, Judging, Writing, Written};
 use reference::known;
 use reference::path::Path;
 use reference::random::{self, Random, FULL_KINDS};
@@ -16,9 +16,11 @@ use reference::{everyday, record, sheet, stack};
 /// The bytes that each function must stay below: 40 KiB.
 const LIMIT: usize = 40_960;
 
-/// The functions of the library, and what measures each on a path that is not
-/// refused.
-const FUNCTIONS: [(&str, fn(&Path) -> usize); 5] = [
+/// Measures one function on a path that is not refused.
+type Measure = fn(&Path) -> usize;
+
+/// The functions of the library, and what measures each.
+const FUNCTIONS: [(&str, Measure); 5] = [
     ("judge_sheet", |path| judging(&sheet::write(path), judge::judge_sheet)),
     ("rewrite_sheet", |path| writing(&sheet::write(path), sheet::LONGEST, judge::rewrite_sheet)),
     ("judge_record", |path| judging(&record::numbers(path), judge::judge_record)),
@@ -48,10 +50,7 @@ fn paths() -> Vec<(String, Path)> {
 }
 
 /// Measures a function that judges.
-fn judging<I: Sync>(
-    input: &[I],
-    judge: fn(&[I], &mut [u16], &mut [u16], &mut [u16]) -> Judged,
-) -> usize {
+fn judging<I: Sync>(input: &[I], judge: Judging<I>) -> usize {
     let (mut authority, mut user, mut counts) = ([0; PLACES], [0; PLACES], [0; DEPTHS]);
     let mut judged = Judged { number: sheet::TOO_SHORT, place: 0 };
     let bytes = stack::overwritten(&mut || {
@@ -65,7 +64,7 @@ fn judging<I: Sync>(
 fn writing<I: Sync, O: Clone + Default + Send>(
     input: &[I],
     places: usize,
-    write: fn(&[I], &mut [O]) -> Written,
+    write: Writing<I, O>,
 ) -> usize {
     let mut lent = vec![O::default(); places];
     let mut written = Written { number: sheet::TOO_SHORT, length: 0 };

@@ -11,15 +11,14 @@ use std::env;
 use std::process::ExitCode;
 
 use reference::answer::{Answer, DEPTHS, PLACES};
+use reference::beside::{JUDGE_RECORD, JUDGE_SHEET};
 use reference::harm::HARMS;
 use reference::known::{self, E_SHEET};
 use reference::path::Path;
 use reference::random::{self, Full, Random, FULL_KINDS};
 use reference::{everyday, record, sheet, tree};
 
-use run::{
-    Judgement, Lengths, Run, BUFFERS, COUNTS, ENOUGH, JUDGE_RECORD, JUDGE_SHEET, RECORDS, TABLES,
-};
+use run::{Judgement, Lengths, Run, BUFFERS, COUNTS, ENOUGH, RECORDS, TABLES};
 
 /// The least number of random sheets, and of records, that each answer must
 /// get.

@@ -3,8 +3,9 @@
 use std::fmt::UpperHex;
 use std::mem::size_of;
 
-use reference::answer::{self, Answer, DEPTHS, PLACES};
-use reference::judge::{self, Judged, Written};
+use reference::answer::{Answer, DEPTHS, PLACES};
+use reference::beside::{Judges, JUDGE_RECORD, JUDGE_SHEET};
+use reference::judge::{self, Judged, Writing, Written};
 use reference::lent::Lent;
 use reference::path::Path;
 use reference::random::Random;
@@ -36,34 +37,19 @@ pub struct Lengths {
 /// Tables that suffice.
 pub const ENOUGH: Lengths = Lengths { authority: PLACES, user: PLACES, counts: DEPTHS };
 
-/// A function of the library that judges, and the plain one beside it.
-pub struct Judge<I> {
-    name: &'static str,
-    proved: fn(&[I], &mut [u16], &mut [u16], &mut [u16]) -> Judged,
-    plain: fn(&[I], &mut [u16], &mut [u16]) -> Answer,
-}
-
-impl<I> Judge<I> {
-    /// The plain answer with tables of these lengths.
-    fn expected(&self, input: &[I], lengths: Lengths) -> Answer {
-        if lengths.counts < DEPTHS {
-            return Answer::bare(sheet::TOO_SHORT, 0);
-        }
-        (self.plain)(input, &mut vec![0; lengths.authority], &mut vec![0; lengths.user])
+/// The plain answer with tables of these lengths.
+fn expected<I>(judges: &Judges<I>, input: &[I], lengths: Lengths) -> Answer {
+    if lengths.counts < DEPTHS {
+        return Answer::bare(sheet::TOO_SHORT, 0);
     }
+    (judges.plain)(input, &mut vec![0; lengths.authority], &mut vec![0; lengths.user])
 }
-
-pub const JUDGE_SHEET: Judge<u8> =
-    Judge { name: "judge_sheet", proved: judge::judge_sheet, plain: answer::judge_sheet };
-
-pub const JUDGE_RECORD: Judge<u16> =
-    Judge { name: "judge_record", proved: judge::judge_record, plain: answer::judge_record };
 
 /// A function of the library that writes into a lent slice, the plain one
 /// beside it, and what draws the slice's old values.
 struct Writer<I, O> {
     name: &'static str,
-    proved: fn(&[I], &mut [O]) -> Written,
+    proved: Writing<I, O>,
     plain: fn(&[I], &mut [O]) -> (u8, usize),
     old: fn(&mut Random) -> O,
 }
@@ -100,7 +86,7 @@ pub struct Judgement {
 impl Judgement {
     /// Has the proved judge judge with tables full of old values.
     pub fn of<I>(
-        judge: &Judge<I>,
+        judges: &Judges<I>,
         input: &[I],
         lengths: Lengths,
         random: &mut Random,
@@ -108,7 +94,7 @@ impl Judgement {
         let mut authority = Lent::new(lengths.authority, random, Random::word);
         let mut user = Lent::new(lengths.user, random, Random::word);
         let mut counts = Lent::new(lengths.counts, random, Random::word);
-        let judged = (judge.proved)(input, authority.slice(), user.slice(), counts.slice());
+        let judged = (judges.proved)(input, authority.slice(), user.slice(), counts.slice());
         Judgement { authority, user, counts, judged }
     }
 
@@ -156,13 +142,13 @@ impl Run {
     /// answer of the graph judge.
     fn answered<I: UpperHex>(
         &mut self,
-        judge: &Judge<I>,
+        judges: &Judges<I>,
         input: &[I],
         lengths: Lengths,
         expected: &Answer,
     ) -> Judgement {
-        let judgement = Judgement::of(judge, input, lengths, &mut self.random);
-        let (name, got) = (judge.name, judgement.judged);
+        let judgement = Judgement::of(judges, input, lengths, &mut self.random);
+        let (name, got) = (judges.name, judgement.judged);
         let what = || format!("{name} and graph differ, {lengths:?}, {got:?}, graph {expected:?}");
         self.check(judgement.shows(expected), what, input);
         judgement
@@ -172,7 +158,7 @@ impl Run {
     /// record, against the graph judge and, within the cap, the tree judge.
     /// Returns the expected answer.
     pub fn judge(&mut self, sheet: &[u8], lengths: Lengths, cap: usize) -> Answer {
-        let expected = JUDGE_SHEET.expected(sheet, lengths);
+        let expected = expected(&JUDGE_SHEET, sheet, lengths);
         let judgement = self.answered(&JUDGE_SHEET, sheet, lengths, &expected);
         if let Ok(path) = sheet::read(sheet) {
             if !expected.is_refusal() {
@@ -186,7 +172,7 @@ impl Run {
     /// One record, one set of tables: the proved judge against the graph
     /// judge. Returns the expected answer.
     pub fn judge_record(&mut self, record: &[u16], lengths: Lengths) -> Answer {
-        let expected = JUDGE_RECORD.expected(record, lengths);
+        let expected = expected(&JUDGE_RECORD, record, lengths);
         self.answered(&JUDGE_RECORD, record, lengths, &expected);
         expected
     }
