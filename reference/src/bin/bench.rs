@@ -49,6 +49,7 @@ impl Tables {
     fn plain<I>(&mut self, judges: &Judges<I>, input: &[I]) -> Verdict {
         let answer = (judges.plain)(black_box(input), &mut self.authority, &mut self.user);
         self.counts = answer.counts;
+        black_box(&*self);
         (answer.number, answer.place)
     }
 
@@ -56,6 +57,7 @@ impl Tables {
     fn proved<I>(&mut self, judges: &Judges<I>, input: &[I]) -> Verdict {
         let Tables { authority, user, counts } = self;
         let judged = (judges.proved)(black_box(input), authority, user, counts);
+        black_box(&*self);
         (judged.number, judged.place)
     }
 }
@@ -91,9 +93,8 @@ fn measure(paths: &[Path], verdict: Verdict) -> Times {
     Times { plain: sum.plain / sheets, proved: sum.proved / sheets }
 }
 
-/// Times two functions that turn one into the other, sheets and records: the
-/// plain one returns what it writes, the proved one writes into a lent slice
-/// of so many places. Both write the same.
+/// Times two functions that write a sheet or a record: the plain one returns
+/// it, the proved one has a lent slice of so many places. Both write the same.
 fn writing<I, O: Copy + Default + Debug + PartialEq>(
     input: &[I],
     places: usize,
