@@ -1,5 +1,6 @@
 //! Decoded paths as records of numbers, for the proved program `path_check`,
-//! and the line that it is expected to write for each.
+//! and the line that it is expected to write for each. Unlike the records of
+//! `record.rs` these have every place of a path, the unused ones too.
 
 use crate::answer::{judge_path, Answer, DEPTHS, PLACES};
 use crate::path::{Certificate, Path, MAX_CERTIFICATES, MAX_LIST};
