@@ -1,7 +1,7 @@
 //! The judge's answer, and how it stands in the lent tables.
 
 use crate::path::{Path, MAX_CERTIFICATES};
-use crate::{graph, sheet};
+use crate::{graph, record, sheet};
 
 /// "two tables of 16-bit numbers, authority and user, at least 304 places
 /// each"
@@ -58,35 +58,34 @@ fn fill_table(set: &[u16], table: &mut [u16]) {
     rest.fill(0);
 }
 
-/// Judges a sheet: "7 first; then the sheet field by field [...]; then
-/// certificate by certificate".
-pub fn judge_sheet(sheet: &[u8], authority: &mut [u16], user: &mut [u16]) -> Answer {
+/// Has lent tables take an answer: "7 first", then a refusal or the answer.
+fn lend(
+    authority: &mut [u16],
+    user: &mut [u16],
+    judged: impl FnOnce() -> Result<Answer, u8>,
+) -> Answer {
     if authority.len() < PLACES || user.len() < PLACES {
         return Answer::bare(sheet::TOO_SHORT, 0);
     }
-    match sheet::read(sheet) {
-        Err(number) => Answer::bare(number, 0),
-        Ok(path) => {
-            let answer = graph::judge(&path);
-            answer.fill(authority, user);
-            answer
-        }
-    }
+    let answer = judged().unwrap_or_else(|number| Answer::bare(number, 0));
+    answer.fill(authority, user);
+    answer
+}
+
+/// Judges a sheet: "7 first; then the sheet field by field [...]; then
+/// certificate by certificate".
+pub fn judge_sheet(sheet: &[u8], authority: &mut [u16], user: &mut [u16]) -> Answer {
+    lend(authority, user, || sheet::read(sheet).map(|path| graph::judge(&path)))
 }
 
 /// Judges "a path handed over decoded".
 pub fn judge_path(path: &Path, authority: &mut [u16], user: &mut [u16]) -> Answer {
-    if authority.len() < PLACES || user.len() < PLACES {
-        return Answer::bare(sheet::TOO_SHORT, 0);
-    }
-    match sheet::refusal(path) {
-        Err(number) => Answer::bare(number, 0),
-        Ok(()) => {
-            let answer = graph::judge(path);
-            answer.fill(authority, user);
-            answer
-        }
-    }
+    lend(authority, user, || sheet::refusal(path).map(|()| graph::judge(path)))
+}
+
+/// Judges the path of a record.
+pub fn judge_record(record: &[u16], authority: &mut [u16], user: &mut [u16]) -> Answer {
+    lend(authority, user, || record::path_of(record).map(|path| graph::judge(&path)))
 }
 
 #[cfg(test)]
@@ -112,6 +111,10 @@ mod tests {
     fn tables_after_each_row() {
         for row in known::rows() {
             let (mut authority, mut user) = ([9; 400], [9; PLACES]);
+            let numbers = record::numbers(&row.path);
+            let answer = judge_record(&numbers, &mut authority, &mut user);
+            assert_eq!(answer, row.answer, "{}", row.name);
+            let (mut authority, mut user) = ([9; 400], [9; PLACES]);
             let answer = judge_path(&row.path, &mut authority, &mut user);
             assert_eq!(answer, row.answer, "{}", row.name);
             let (set, rest) = authority.split_at(answer.authority.len());
@@ -128,6 +131,7 @@ mod tests {
         let (mut authority, mut user) = ([9; PLACES], [9; PLACES]);
         assert_eq!(judge_sheet(&[0x21], &mut authority, &mut user), Answer::bare(2, 0));
         assert_eq!(judge_path(&Path::default(), &mut authority, &mut user), Answer::bare(3, 0));
+        assert_eq!(judge_record(&[0], &mut authority, &mut user), Answer::bare(3, 0));
         assert_eq!((authority, user), ([9; PLACES], [9; PLACES]));
     }
 }

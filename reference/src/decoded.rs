@@ -1,8 +1,10 @@
 //! Decoded paths as records of numbers, for the proved program `path_check`,
-//! and the line that it is expected to write for each.
+//! and the line that it is expected to write for each. Unlike the records of
+//! `record.rs` these have every place of a path, the unused ones too.
 
 use crate::answer::{judge_path, Answer, DEPTHS, PLACES};
 use crate::path::{Certificate, Path, MAX_CERTIFICATES, MAX_LIST};
+use crate::record::skip_number;
 use crate::sheet::{self, LONGEST};
 
 /// The places of a table and the bytes of a buffer, of which the first are
@@ -30,11 +32,6 @@ fn put_list(numbers: &mut Vec<u16>, list: &[u16], unused: &mut impl FnMut() -> u
     numbers.extend(places);
 }
 
-/// 0 for absent, else one more than the value.
-fn skip(value: Option<u8>) -> u16 {
-    value.map_or(0, |value| u16::from(value) + 1)
-}
-
 /// The numbers of one place of a certificate.
 fn put_certificate(
     numbers: &mut Vec<u16>,
@@ -49,9 +46,9 @@ fn put_certificate(
     numbers.push(certificate.mappings.len() as u16);
     put_list(numbers, &issuers, unused);
     put_list(numbers, &subjects, unused);
-    numbers.push(skip(certificate.require_explicit_policy));
-    numbers.push(skip(certificate.inhibit_policy_mapping));
-    numbers.push(skip(certificate.inhibit_any_policy));
+    numbers.push(skip_number(certificate.require_explicit_policy));
+    numbers.push(skip_number(certificate.inhibit_policy_mapping));
+    numbers.push(skip_number(certificate.inhibit_any_policy));
 }
 
 /// A record. A list longer than its places shows by its count alone, and every

@@ -18,6 +18,31 @@ extern "C" {
         buffer: *mut u8,
         buffer_len: usize,
     ) -> u32;
+
+    fn skandrulo_judge_record(
+        record: *const u16,
+        record_len: usize,
+        authority: *mut u16,
+        authority_len: usize,
+        user: *mut u16,
+        user_len: usize,
+        counts: *mut u16,
+        counts_len: usize,
+    ) -> u32;
+
+    fn skandrulo_write_record(
+        record: *const u16,
+        record_len: usize,
+        buffer: *mut u8,
+        buffer_len: usize,
+    ) -> u32;
+
+    fn skandrulo_read_record(
+        sheet: *const u8,
+        sheet_len: usize,
+        record: *mut u16,
+        record_len: usize,
+    ) -> u32;
 }
 
 /// The number and place that the proved judge returned.
@@ -27,12 +52,27 @@ pub struct Judged {
     pub place: usize,
 }
 
-/// The number and length that the proved writer returned.
+/// The number that the proved reader or writer returned, and the length of
+/// what it wrote: a sheet's bytes, or a record's places.
 #[derive(Clone, Copy, Debug, PartialEq, Eq)]
-pub struct Rewritten {
+pub struct Written {
     pub number: u8,
     pub length: usize,
 }
+
+/// A function below that judges: what is judged, then the authority table, the
+/// user table and the counts.
+pub type Judging<I> = fn(&[I], &mut [u16], &mut [u16], &mut [u16]) -> Judged;
+
+/// A function below that reads one slice and writes another.
+pub type Writing<I, O> = fn(&[I], &mut [O]) -> Written;
+
+/// A function of the library that judges.
+type Judge<I> =
+    unsafe extern "C" fn(*const I, usize, *mut u16, usize, *mut u16, usize, *mut u16, usize) -> u32;
+
+/// A function of the library that reads one slice and writes another.
+type Write<I, O> = unsafe extern "C" fn(*const I, usize, *mut O, usize) -> u32;
 
 /// Judges a sheet. The sets stand in `authority` and `user`, the depth counts
 /// in the first 11 places of `counts`.
@@ -42,12 +82,48 @@ pub fn judge_sheet(
     user: &mut [u16],
     counts: &mut [u16],
 ) -> Judged {
+    judge(skandrulo_judge_sheet, sheet, authority, user, counts)
+}
+
+/// Judges the path of a record, in the same way.
+pub fn judge_record(
+    record: &[u16],
+    authority: &mut [u16],
+    user: &mut [u16],
+    counts: &mut [u16],
+) -> Judged {
+    judge(skandrulo_judge_record, record, authority, user, counts)
+}
+
+/// Reads a sheet and writes its path again into `buffer`.
+pub fn rewrite_sheet(sheet: &[u8], buffer: &mut [u8]) -> Written {
+    write(skandrulo_rewrite_sheet, sheet, buffer)
+}
+
+/// Writes the sheet of a record's path into `buffer`.
+pub fn write_record(record: &[u16], buffer: &mut [u8]) -> Written {
+    write(skandrulo_write_record, record, buffer)
+}
+
+/// Reads a sheet and puts the record of its path into `record`.
+pub fn read_record(sheet: &[u8], record: &mut [u16]) -> Written {
+    write(skandrulo_read_record, sheet, record)
+}
+
+/// Calls a function of the library that judges.
+fn judge<I>(
+    function: Judge<I>,
+    input: &[I],
+    authority: &mut [u16],
+    user: &mut [u16],
+    counts: &mut [u16],
+) -> Judged {
     // SAFETY: each pointer is passed with the length of the slice it comes
     // from, the slices do not overlap, and the function keeps none of them.
     let packed = unsafe {
-        skandrulo_judge_sheet(
-            sheet.as_ptr(),
-            sheet.len(),
+        function(
+            input.as_ptr(),
+            input.len(),
             authority.as_mut_ptr(),
             authority.len(),
             user.as_mut_ptr(),
@@ -60,14 +136,13 @@ pub fn judge_sheet(
     Judged { number, place }
 }
 
-/// Reads a sheet and writes its path again into `buffer`.
-pub fn rewrite_sheet(sheet: &[u8], buffer: &mut [u8]) -> Rewritten {
+/// Calls a function of the library that reads one slice and writes another.
+fn write<I, O>(function: Write<I, O>, input: &[I], output: &mut [O]) -> Written {
     // SAFETY: as above.
-    let packed = unsafe {
-        skandrulo_rewrite_sheet(sheet.as_ptr(), sheet.len(), buffer.as_mut_ptr(), buffer.len())
-    };
+    let packed =
+        unsafe { function(input.as_ptr(), input.len(), output.as_mut_ptr(), output.len()) };
     let (number, length) = unpack(packed);
-    Rewritten { number, length }
+    Written { number, length }
 }
 
 /// Parts a returned value: number + 256 * the other part.

@@ -2,6 +2,8 @@
 //! document 01 and RFC 9618 alone.
 
 pub mod answer;
+#[cfg(feature = "library")]
+pub mod beside;
 pub mod counters;
 pub mod decoded;
 pub mod everyday;
@@ -13,6 +15,8 @@ pub mod known;
 pub mod lent;
 pub mod path;
 pub mod random;
+pub mod random_record;
+pub mod record;
 pub mod sheet;
 pub mod stack;
 pub mod tree;

@@ -186,16 +186,18 @@ fn put_skip(fields: &mut Vec<Field>, skip: Option<u8>) {
 /// Packs fields "most significant bit first, no gaps", then "zero bits to the
 /// end of the byte". Bits above a field's width are dropped.
 pub fn pack(fields: &[Field]) -> Vec<u8> {
-    let mut sheet = Vec::new();
-    let mut used = 0;
+    let mut sheet = Vec::with_capacity(LONGEST);
+    let (mut bits, mut held) = (0u32, 0);
     for &(value, width) in fields {
-        for bit in (0..width).rev() {
-            if used % 8 == 0 {
-                sheet.push(0);
-            }
-            sheet[used / 8] |= ((value >> bit & 1) as u8) << (7 - used % 8);
-            used += 1;
+        bits = bits << width | u32::from(value) & ((1 << width) - 1);
+        held += width;
+        while held >= 8 {
+            held -= 8;
+            sheet.push((bits >> held) as u8);
         }
+    }
+    if held > 0 {
+        sheet.push((bits << (8 - held)) as u8);
     }
     sheet
 }
@@ -220,7 +222,7 @@ pub fn refusal(path: &Path) -> Result<(), u8> {
 }
 
 /// The user list: 3 for its count, then 4 for its policies.
-fn user_fault(list: &[u16]) -> Result<(), u8> {
+pub fn user_fault(list: &[u16]) -> Result<(), u8> {
     if list.len() > MAX_LIST {
         return Err(WRONG_COUNT);
     }
@@ -231,7 +233,7 @@ fn user_fault(list: &[u16]) -> Result<(), u8> {
 }
 
 /// A certificate's policies: 3 for the count, then at each policy 4 before 5.
-fn policies_fault(policies: &[u16]) -> Result<(), u8> {
+pub fn policies_fault(policies: &[u16]) -> Result<(), u8> {
     if policies.len() > MAX_LIST {
         return Err(WRONG_COUNT);
     }
@@ -247,7 +249,7 @@ fn policies_fault(policies: &[u16]) -> Result<(), u8> {
 }
 
 /// A certificate's pairs: 3 for the count, then 4 for issuer or subject.
-fn pairs_fault(pairs: &[(u16, u16)]) -> Result<(), u8> {
+pub fn pairs_fault(pairs: &[(u16, u16)]) -> Result<(), u8> {
     if pairs.len() > MAX_LIST {
         return Err(WRONG_COUNT);
     }
@@ -257,32 +259,37 @@ fn pairs_fault(pairs: &[(u16, u16)]) -> Result<(), u8> {
     Ok(())
 }
 
-/// The writer: 7 first if the buffer is below 1,044 bytes, then the path's
-/// refusals. Returns the number and the sheet's length, "0 on refusal". "On
-/// refusal the buffer is unchanged; otherwise it holds the sheet first and
-/// every later byte is unchanged."
-pub fn write_into(path: &Path, buffer: &mut [u8]) -> (u8, usize) {
-    if buffer.len() < LONGEST {
+/// Writes into a lent slice: 7 first if it has fewer than `least` places, then
+/// the refusal. Returns the number and the length of what was written, "0 on
+/// refusal". "On refusal the buffer is unchanged; otherwise it holds the sheet
+/// first and every later byte is unchanged."
+pub fn fill<T: Copy>(
+    lent: &mut [T],
+    least: usize,
+    written: impl FnOnce() -> Result<Vec<T>, u8>,
+) -> (u8, usize) {
+    if lent.len() < least {
         return (TOO_SHORT, 0);
     }
-    if let Err(number) = refusal(path) {
-        return (number, 0);
+    match written() {
+        Ok(written) => {
+            lent[..written.len()].copy_from_slice(&written);
+            (0, written.len())
+        }
+        Err(number) => (number, 0),
     }
-    let sheet = write(path);
-    buffer[..sheet.len()].copy_from_slice(&sheet);
-    (0, sheet.len())
+}
+
+/// The writer: 7 first if the buffer is below 1,044 bytes, then the path's
+/// refusals.
+pub fn write_into(path: &Path, buffer: &mut [u8]) -> (u8, usize) {
+    fill(buffer, LONGEST, || refusal(path).map(|()| write(path)))
 }
 
 /// Reads a sheet and writes its path again: the writer's 7 first, then the
 /// reader's refusals.
 pub fn rewrite(sheet: &[u8], buffer: &mut [u8]) -> (u8, usize) {
-    if buffer.len() < LONGEST {
-        return (TOO_SHORT, 0);
-    }
-    match read(sheet) {
-        Ok(path) => write_into(&path, buffer),
-        Err(number) => (number, 0),
-    }
+    fill(buffer, LONGEST, || read(sheet).map(|path| write(&path)))
 }
 
 #[cfg(test)]

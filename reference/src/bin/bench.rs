@@ -1,17 +1,21 @@
-//! The speed of the proved judge beside the plain graph judge of this
-//! package, as Markdown.
+//! The speed of the proved judge, reader and writer beside the plain graph
+//! judge and codec of this package, as Markdown.
 //!
 //! Argument: the seed of the sheets (1).
 
 use std::env;
+use std::fmt::Debug;
 use std::hint::black_box;
 use std::time::Instant;
 
-use reference::answer::{judge_sheet, DEPTHS, PLACES};
+use reference::answer::{DEPTHS, PLACES};
+use reference::beside::{Judges, JUDGE_RECORD, JUDGE_SHEET};
+use reference::everyday::{self, Everyday};
 use reference::harm::HARMS;
+use reference::judge::{self, Writing, Written};
 use reference::path::Path;
 use reference::random::{self, Full, Random, FULL_KINDS};
-use reference::{everyday, judge, sheet, tree};
+use reference::{record, sheet, tree};
 
 /// The sheets of one kind and length.
 const SHEETS: usize = 4;
@@ -28,7 +32,8 @@ type Verdict = (u8, usize);
 /// The verdict on a path that is valid for policy.
 const VALID: Verdict = (0, 0);
 
-/// The tables lent for all runs.
+/// The tables lent to one judge for all runs on one input.
+#[derive(Debug, PartialEq)]
 struct Tables {
     authority: [u16; PLACES],
     user: [u16; PLACES],
@@ -40,61 +45,98 @@ impl Tables {
         Tables { authority: [0; PLACES], user: [0; PLACES], counts: [0; DEPTHS] }
     }
 
-    /// The plain judge judges the sheet once.
-    fn plain(&mut self, sheet: &[u8]) {
-        let answer = judge_sheet(black_box(sheet), &mut self.authority, &mut self.user);
+    /// The plain judge judges once.
+    fn plain<I>(&mut self, judges: &Judges<I>, input: &[I]) -> Verdict {
+        let answer = (judges.plain)(black_box(input), &mut self.authority, &mut self.user);
         self.counts = answer.counts;
-        black_box((answer.number, answer.place, &self.counts));
+        black_box(&*self);
+        (answer.number, answer.place)
     }
 
-    /// The proved judge judges the sheet once.
-    fn proved(&mut self, sheet: &[u8]) {
+    /// The proved judge judges once.
+    fn proved<I>(&mut self, judges: &Judges<I>, input: &[I]) -> Verdict {
         let Tables { authority, user, counts } = self;
-        let judged = judge::judge_sheet(black_box(sheet), authority, user, counts);
-        black_box((judged, &self.counts));
+        let judged = (judges.proved)(black_box(input), authority, user, counts);
+        black_box(&*self);
+        (judged.number, judged.place)
     }
 }
 
-/// Both judges give the verdict, with the same counts and the same tables,
-/// and where it is 0 no depth count to n is 0.
-fn check(n: usize, sheet: &[u8], verdict: Verdict) {
-    let (mut plain, mut proved) = (Tables::new(), Tables::new());
-    let answer = judge_sheet(sheet, &mut plain.authority, &mut plain.user);
-    let judged =
-        judge::judge_sheet(sheet, &mut proved.authority, &mut proved.user, &mut proved.counts);
-    assert_eq!((answer.number, answer.place), verdict);
-    assert!(verdict != VALID || answer.counts[..=n].iter().all(|&count| count > 0));
-    assert_eq!((judged.number, judged.place), verdict);
-    assert_eq!(proved.counts, answer.counts);
-    assert_eq!((proved.authority, proved.user), (plain.authority, plain.user));
-}
-
-/// Times for one sheet, in microseconds.
+/// Times for one input, in microseconds.
+#[derive(Default)]
 struct Times {
     plain: f64,
     proved: f64,
 }
 
-/// Measures both judges on the same sheets, which have one verdict, batch by
-/// batch in turn: the mean over the sheets of each sheet's median.
+/// Times both judges on one sheet or record of n certificates. Both give the
+/// verdict, with the same counts and the same tables, and where it is 0 no
+/// depth count to n is 0.
+fn judging<I>(judges: &Judges<I>, input: &[I], n: usize, verdict: Verdict) -> Times {
+    let (mut plain, mut proved) = (Tables::new(), Tables::new());
+    assert_eq!(plain.plain(judges, input), verdict);
+    assert_eq!(proved.proved(judges, input), verdict);
+    assert_eq!(proved, plain);
+    assert!(verdict != VALID || plain.counts[..=n].iter().all(|&count| count > 0));
+    in_turn(|| plain.plain(judges, input), || proved.proved(judges, input))
+}
+
+/// Times both judges on sheets with one verdict: the mean over the sheets.
 fn measure(paths: &[Path], verdict: Verdict) -> Times {
-    let mut tables = Tables::new();
-    let mut sum = Times { plain: 0.0, proved: 0.0 };
+    let mut sum = Times::default();
     for path in paths {
-        let sheet = sheet::write(path);
-        check(path.certificates.len(), &sheet, verdict);
-        let plain_rounds = rounds(|| tables.plain(&sheet));
-        let proved_rounds = rounds(|| tables.proved(&sheet));
-        let (mut plain, mut proved) = (Vec::new(), Vec::new());
-        for _ in 0..BATCHES {
-            plain.push(time(plain_rounds, || tables.plain(&sheet)));
-            proved.push(time(proved_rounds, || tables.proved(&sheet)));
-        }
-        sum.plain += median(plain);
-        sum.proved += median(proved);
+        let times = judging(&JUDGE_SHEET, &sheet::write(path), path.certificates.len(), verdict);
+        sum.plain += times.plain;
+        sum.proved += times.proved;
     }
     let sheets = paths.len() as f64;
     Times { plain: sum.plain / sheets, proved: sum.proved / sheets }
+}
+
+/// Times two functions that write a sheet or a record: the plain one returns
+/// it, the proved one has a lent slice of so many places. Both write the same.
+fn writing<I, O: Copy + Default + Debug + PartialEq>(
+    input: &[I],
+    places: usize,
+    plain: fn(&[I]) -> Vec<O>,
+    proved: Writing<I, O>,
+) -> Times {
+    let mut lent = vec![O::default(); places];
+    let expected = plain(input);
+    assert_eq!(proved(input, &mut lent), Written { number: 0, length: expected.len() });
+    assert_eq!(lent[..expected.len()], expected);
+    in_turn(|| plain(black_box(input)), || proved(black_box(input), &mut lent))
+}
+
+/// Reading alone: a sheet to its path's record.
+fn reading_alone(path: &Path) -> Times {
+    let plain = |sheet: &[u8]| record::numbers(&sheet::read(sheet).expect("a sheet"));
+    writing(&sheet::write(path), record::LONGEST, plain, judge::read_record)
+}
+
+/// Writing alone: a record to its path's sheet.
+fn writing_alone(path: &Path) -> Times {
+    let plain = |record: &[u16]| sheet::write(&record::path_of(record).expect("a record"));
+    writing(&record::numbers(path), sheet::LONGEST, plain, judge::write_record)
+}
+
+/// Reading and writing: a sheet to its path's sheet.
+fn rewriting(path: &Path) -> Times {
+    let plain = |sheet: &[u8]| sheet::write(&sheet::read(sheet).expect("a sheet"));
+    writing(&sheet::write(path), sheet::LONGEST, plain, judge::rewrite_sheet)
+}
+
+/// Times both functions, batch by batch in turn: the median of each.
+fn in_turn<T, U>(mut plain: impl FnMut() -> T, mut proved: impl FnMut() -> U) -> Times {
+    let mut plain = || drop(black_box(plain()));
+    let mut proved = || drop(black_box(proved()));
+    let (plain_rounds, proved_rounds) = (rounds(&mut plain), rounds(&mut proved));
+    let (mut plain_times, mut proved_times) = (Vec::new(), Vec::new());
+    for _ in 0..BATCHES {
+        plain_times.push(time(plain_rounds, &mut plain));
+        proved_times.push(time(proved_rounds, &mut proved));
+    }
+    Times { plain: median(plain_times), proved: median(proved_times) }
 }
 
 /// The rounds that fill the least time of a batch; also warms up.
@@ -215,6 +257,60 @@ fn print_harm(random: &mut Random) {
     }
 }
 
+/// A path with its name.
+type Named = (String, Path);
+
+/// Paths from one certificate with one policy to a full one, answered 0.
+fn small_to_full(random: &mut Random) -> Vec<Named> {
+    let shapes = [(1, 1, false), (2, 1, false), (3, 2, false), (4, 4, true)];
+    let everyday = shapes.map(|(n, policies, mapped)| {
+        let name = format!("{n} x {policies}{}", if mapped { ", mapped" } else { "" });
+        (name, Everyday { n, policies, mapped }.path())
+    });
+    let mut paths = everyday.to_vec();
+    paths.push(("case B, n = 10".to_string(), random::doubling(10)));
+    paths.push(full_path(Full::Straight, random));
+    paths
+}
+
+/// The longest path of a kind.
+fn full_path(kind: Full, random: &mut Random) -> Named {
+    (format!("10 x 16, full, {kind:?}"), random::full(kind, 10, random))
+}
+
+/// The table of reading and writing alone.
+fn print_codec(paths: &[Named]) {
+    println!(
+        "\nReading and writing alone, with no judging. Reading is from a sheet to a record of"
+    );
+    println!("numbers (include/judge.h), writing from a record to a sheet, both from a sheet to a");
+    println!(
+        "sheet. The plain code returns new vectors, the proved code writes into lent slices:\n"
+    );
+    print_head(&["sheet", "bytes", "operation"]);
+    for (name, path) in paths {
+        let bytes = sheet::write(path).len().to_string();
+        for (operation, times) in [
+            ("reading", reading_alone(path)),
+            ("writing", writing_alone(path)),
+            ("both", rewriting(path)),
+        ] {
+            print_row(&[name.clone(), bytes.clone(), operation.to_string()], &times);
+        }
+    }
+}
+
+/// The table of judging records.
+fn print_records(paths: &[Named]) {
+    println!("\nJudging records, answered 0:\n");
+    print_head(&["record", "places"]);
+    for (name, path) in paths {
+        let record = record::numbers(path);
+        let times = judging(&JUDGE_RECORD, &record, path.certificates.len(), VALID);
+        print_row(&[name.clone(), record.len().to_string()], &times);
+    }
+}
+
 fn main() {
     let seed = env::args().nth(1).map_or(1, |word| word.parse().expect("a number"));
     let mut random = Random::new(seed);
@@ -224,4 +320,8 @@ fn main() {
     print_doubling();
     print_everyday();
     print_harm(&mut random);
+    let mut paths = small_to_full(&mut random);
+    print_codec(&paths);
+    paths.push(full_path(Full::Any, &mut random));
+    print_records(&paths);
 }

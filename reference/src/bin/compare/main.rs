@@ -1,153 +1,43 @@
 //! The proved judge against the graph judge, the tree judge and the codec of
-//! this package.
+//! this package, on sheets and on records.
 //!
-//! Arguments: the seed (1), the number of random sheets (200000).
+//! Arguments: the seed (1), the number of random sheets (200000); half as many
+//! random records are compared.
+
+mod records;
+mod run;
 
 use std::env;
 use std::process::ExitCode;
 
-use reference::answer::{judge_sheet, Answer, DEPTHS, PLACES};
+use reference::answer::{Answer, DEPTHS, PLACES};
+use reference::beside::{JUDGE_RECORD, JUDGE_SHEET};
 use reference::harm::HARMS;
-use reference::judge::{self, Judged, Rewritten};
 use reference::known::{self, E_SHEET};
-use reference::lent::Lent;
 use reference::path::Path;
 use reference::random::{self, Full, Random, FULL_KINDS};
-use reference::{everyday, sheet, tree};
+use reference::{everyday, record, sheet, tree};
 
-/// The least number of random sheets that each answer must get.
+use run::{Judgement, Lengths, Run, BUFFERS, COUNTS, ENOUGH, RECORDS, TABLES};
+
+/// The least number of random sheets, and of records, that each answer must
+/// get.
 const OFTEN: usize = 500;
-
-/// The failures that are printed whole.
-const SHOWN: usize = 20;
-
-/// Lengths of lent tables.
-const TABLES: [usize; 5] = [0, PLACES - 1, PLACES, PLACES + 1, 1_000];
-
-/// Lengths of lent counts.
-const COUNTS: [usize; 5] = [0, DEPTHS - 1, DEPTHS, DEPTHS + 1, 40];
-
-/// Lengths of lent buffers.
-const BUFFERS: [usize; 5] = [0, sheet::LONGEST - 1, sheet::LONGEST, sheet::LONGEST + 1, 1_500];
 
 /// The cap on the tree of a damaged sheet, of which there are many.
 const DAMAGE_CAP: usize = 2_000;
 
-/// The lengths of the three tables lent to the judge.
-#[derive(Clone, Copy, Debug)]
-struct Lengths {
-    authority: usize,
-    user: usize,
-    counts: usize,
-}
-
-/// Tables that suffice.
-const ENOUGH: Lengths = Lengths { authority: PLACES, user: PLACES, counts: DEPTHS };
-
-/// The tables lent for one judgement, and what the proved judge returned.
-struct Judgement {
-    authority: Lent<u16>,
-    user: Lent<u16>,
-    counts: Lent<u16>,
-    judged: Judged,
-}
-
-impl Judgement {
-    /// Has the proved judge judge a sheet with tables full of old values.
-    fn of(sheet: &[u8], lengths: Lengths, random: &mut Random) -> Judgement {
-        let mut authority = Lent::new(lengths.authority, random, Random::word);
-        let mut user = Lent::new(lengths.user, random, Random::word);
-        let mut counts = Lent::new(lengths.counts, random, Random::word);
-        let judged = judge::judge_sheet(sheet, authority.slice(), user.slice(), counts.slice());
-        Judgement { authority, user, counts, judged }
-    }
-
-    /// Whether number, place, every place of every table and every guard are
-    /// as the answer demands.
-    fn shows(&self, answer: &Answer) -> bool {
-        let (mut authority, mut user) = (self.authority.old(), self.user.old());
-        answer.fill(&mut authority, &mut user);
-        let mut counts = self.counts.old();
-        if answer.number != sheet::TOO_SHORT {
-            counts[..DEPTHS].copy_from_slice(&answer.counts);
-        }
-        self.judged == Judged { number: answer.number, place: answer.place }
-            && self.authority.holds(&authority)
-            && self.user.holds(&user)
-            && self.counts.holds(&counts)
-    }
-}
-
-/// The run so far.
-struct Run {
-    random: Random,
-    passed: usize,
-    failed: usize,
-    trees: usize,
-    over_cap: usize,
-}
-
 impl Run {
-    /// Counts one check; a failure is printed with its sheet in hex.
-    fn check(&mut self, holds: bool, what: impl FnOnce() -> String, sheet: &[u8]) {
-        if holds {
-            self.passed += 1;
-            return;
-        }
-        self.failed += 1;
-        if self.failed <= SHOWN {
-            let hex: String = sheet.iter().map(|byte| format!("{byte:02X}")).collect();
-            println!("FAILED {}: sheet {hex}", what());
-        }
-    }
-
-    /// One sheet, one set of tables: the proved judge against the graph judge
-    /// and, within the cap, the tree judge. Returns the expected answer.
-    fn judge(&mut self, sheet: &[u8], lengths: Lengths, cap: usize) -> Answer {
-        let judgement = Judgement::of(sheet, lengths, &mut self.random);
-        let mut expected = Answer::bare(sheet::TOO_SHORT, 0);
-        if lengths.counts >= DEPTHS {
-            let (mut authority, mut user) = (judgement.authority.old(), judgement.user.old());
-            expected = judge_sheet(sheet, &mut authority, &mut user);
-        }
-        let got = judgement.judged;
-        let what = || format!("judge and graph differ, {lengths:?}, {got:?}, graph {expected:?}");
-        self.check(judgement.shows(&expected), what, sheet);
-        if !expected.is_refusal() {
-            let path = sheet::read(sheet).expect("a judged sheet is readable");
-            match tree::judge(&path, cap) {
-                Some(answer) => {
-                    self.trees += 1;
-                    let what = || format!("judge and tree differ, {got:?}, tree {answer:?}");
-                    self.check(judgement.shows(&answer), what, sheet);
-                }
-                None => self.over_cap += 1,
-            }
-        }
-        expected
-    }
-
-    /// One sheet, one buffer: the proved reader and writer against the codec.
-    fn rewrite(&mut self, sheet: &[u8], length: usize) {
-        let mut buffer = Lent::new(length, &mut self.random, Random::byte);
-        let got = judge::rewrite_sheet(sheet, buffer.slice());
-        let mut expected = buffer.old();
-        let (number, length) = sheet::rewrite(sheet, &mut expected);
-        let same = got == Rewritten { number, length } && buffer.holds(&expected);
-        let accepted_again = number != 0 || expected[..length] == *sheet;
-        let what = || format!("rewrite differs, {got:?}, codec {number} {length}");
-        self.check(same && accepted_again, what, sheet);
-    }
-
-    /// One sheet with tables that suffice, and a rewrite.
-    fn both(&mut self, sheet: &[u8], cap: usize) {
+    /// One sheet with tables that suffice, a rewrite, and its record read.
+    fn once(&mut self, sheet: &[u8], cap: usize) {
         self.rewrite(sheet, sheet::LONGEST);
+        self.read_record(sheet, record::LONGEST);
         let authority = self.random.pick(&TABLES[2..]);
         let user = self.random.pick(&TABLES[2..]);
         self.judge(sheet, Lengths { authority, user, ..ENOUGH }, cap);
     }
 
-    /// One sheet with all lengths of tables, counts and buffers.
+    /// One sheet with all lengths of tables, counts, buffers and records.
     fn all_lengths(&mut self, sheet: &[u8]) {
         for authority in TABLES {
             for user in TABLES {
@@ -160,16 +50,8 @@ impl Run {
         for length in BUFFERS {
             self.rewrite(sheet, length);
         }
-    }
-
-    /// Lengths for a random sheet, short ones now and then.
-    fn draw_lengths(&mut self) -> Lengths {
-        let least = if self.random.chance(8) { 0 } else { 2 };
-        let table = |random: &mut Random| random.pick(&TABLES[least..]);
-        Lengths {
-            authority: table(&mut self.random),
-            user: table(&mut self.random),
-            counts: if self.random.chance(2) { self.random.pick(&COUNTS) } else { DEPTHS },
+        for length in RECORDS {
+            self.read_record(sheet, length);
         }
     }
 
@@ -177,19 +59,22 @@ impl Run {
     fn known(&mut self) {
         for row in known::rows() {
             let sheet = sheet::write(&row.path);
-            let judgement = Judgement::of(&sheet, ENOUGH, &mut self.random);
+            let record = record::numbers(&row.path);
+            let judgement = Judgement::of(&JUDGE_SHEET, &sheet, ENOUGH, &mut self.random);
             self.check(judgement.shows(&row.answer), || format!("row {}", row.name), &sheet);
+            let judgement = Judgement::of(&JUDGE_RECORD, &record, ENOUGH, &mut self.random);
+            self.check(judgement.shows(&row.answer), || format!("row {}", row.name), &record);
             self.all_lengths(&sheet);
         }
         for (sheet, number) in [(&[][..], 1), (&[0x21][..], 2)] {
-            let judgement = Judgement::of(sheet, ENOUGH, &mut self.random);
+            let judgement = Judgement::of(&JUDGE_SHEET, sheet, ENOUGH, &mut self.random);
             let expected = Answer::bare(number, 0);
             self.check(judgement.shows(&expected), || format!("01's answer {number}"), sheet);
             self.all_lengths(sheet);
         }
         for places in [PLACES - 1, PLACES] {
             let lengths = Lengths { authority: places, user: places, ..ENOUGH };
-            let judgement = Judgement::of(&E_SHEET, lengths, &mut self.random);
+            let judgement = Judgement::of(&JUDGE_SHEET, &E_SHEET, lengths, &mut self.random);
             let number = if places < PLACES { sheet::TOO_SHORT } else { 0 };
             let holds = judgement.judged.number == number;
             self.check(holds, || format!("tables of {places}"), &E_SHEET);
@@ -208,6 +93,13 @@ impl Run {
         }
     }
 
+    /// An answer must have come up often.
+    pub fn often(&mut self, number: usize, times: usize, inputs: &str) {
+        println!("answer {number}: {times} {inputs}");
+        let what = || format!("answer {number} is too rare in {inputs}");
+        self.check::<u8>(times >= OFTEN, what, &[]);
+    }
+
     /// Random sheets. Each answer must come up often.
     fn random_sheets(&mut self, sheets: u64) {
         let mut answers = [0; 11];
@@ -216,13 +108,13 @@ impl Run {
             let lengths = self.draw_lengths();
             let answer = self.judge(&sheet, lengths, tree::CAP);
             answers[usize::from(answer.number)] += 1;
-            let length =
-                if self.random.chance(5) { self.random.pick(&BUFFERS) } else { sheet::LONGEST };
+            let length = self.draw_length(&BUFFERS);
             self.rewrite(&sheet, length);
+            let length = self.draw_length(&RECORDS);
+            self.read_record(&sheet, length);
         }
         for (number, times) in answers.into_iter().enumerate() {
-            println!("answer {number}: {times} random sheets");
-            self.check(times >= OFTEN, || format!("answer {number} is too rare"), &[]);
+            self.often(number, times, "random sheets");
         }
     }
 
@@ -234,16 +126,16 @@ impl Run {
             for bit in 0..sheet.len() * 8 {
                 let mut damaged = sheet.clone();
                 damaged[bit / 8] ^= 0x80 >> (bit % 8);
-                self.both(&damaged, DAMAGE_CAP);
+                self.once(&damaged, DAMAGE_CAP);
             }
             for length in 0..sheet.len() {
-                self.both(&sheet[..length], DAMAGE_CAP);
+                self.once(&sheet[..length], DAMAGE_CAP);
             }
             let mut fields = sheet::fields(&path);
             random::change_field(&mut self.random, &mut fields, 16);
             let faulty = sheet::pack(&fields);
             for length in 0..=faulty.len() {
-                self.both(&faulty[..length], DAMAGE_CAP);
+                self.once(&faulty[..length], DAMAGE_CAP);
             }
             self.byte_more(&sheet);
         }
@@ -253,12 +145,12 @@ impl Run {
     fn byte_more(&mut self, sheet: &[u8]) {
         for byte in [0x00, 0x01, 0x80, 0xFF] {
             let longer = [sheet, &[byte]].concat();
-            self.both(&longer, DAMAGE_CAP);
+            self.once(&longer, DAMAGE_CAP);
         }
     }
 
     /// A dozen paths, from one certificate to the longest sheet.
-    fn dozen(&mut self) -> Vec<Path> {
+    pub fn dozen(&mut self) -> Vec<Path> {
         let random = &mut self.random;
         let mut paths: Vec<Path> = known::rows()
             .into_iter()
@@ -283,10 +175,10 @@ impl Run {
     fn random_bytes(&mut self) {
         for length in 0..=1_100 {
             let mut bytes: Vec<u8> = (0..length).map(|_| self.random.byte()).collect();
-            self.both(&bytes, tree::CAP);
+            self.once(&bytes, tree::CAP);
             if let Some(first) = bytes.first_mut() {
                 *first = 0x10 + self.random.between(1, 10) as u8;
-                self.both(&bytes, tree::CAP);
+                self.once(&bytes, tree::CAP);
             }
             let kind = self.random.pick(&FULL_KINDS);
             let mut full = sheet::write(&random::full(kind, 10, &mut self.random));
@@ -296,7 +188,7 @@ impl Run {
                 let more = length - full.len();
                 full.extend((0..more).map(|_| self.random.byte()));
             }
-            self.both(&full, DAMAGE_CAP);
+            self.once(&full, DAMAGE_CAP);
         }
     }
 
@@ -308,7 +200,7 @@ impl Run {
         for path in paths {
             let sheet = sheet::write(&path);
             self.all_lengths(&sheet);
-            self.both(&sheet[..sheet.len() - 1], DAMAGE_CAP);
+            self.once(&sheet[..sheet.len() - 1], DAMAGE_CAP);
             self.byte_more(&sheet);
         }
     }
@@ -326,6 +218,7 @@ fn main() -> ExitCode {
     run.damage();
     run.random_bytes();
     run.everyday_and_harm();
+    run.records(sheets / 2);
     println!("compared with the tree: {}, over its cap: {}", run.trees, run.over_cap);
     println!("{} passed, {} failed", run.passed, run.failed);
     if run.failed == 0 {

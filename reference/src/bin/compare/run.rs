@@ -1,0 +1,252 @@
+//! A run of checks: one input and one set of lent slices at a time.
+
+use std::fmt::UpperHex;
+use std::mem::size_of;
+
+use reference::answer::{Answer, DEPTHS, PLACES};
+use reference::beside::{Judges, JUDGE_RECORD, JUDGE_SHEET};
+use reference::judge::{self, Judged, Writing, Written};
+use reference::lent::Lent;
+use reference::path::Path;
+use reference::random::Random;
+use reference::{record, sheet, tree};
+
+/// The failures that are printed whole.
+const SHOWN: usize = 20;
+
+/// Lengths of lent tables.
+pub const TABLES: [usize; 5] = [0, PLACES - 1, PLACES, PLACES + 1, 1_000];
+
+/// Lengths of lent counts.
+pub const COUNTS: [usize; 5] = [0, DEPTHS - 1, DEPTHS, DEPTHS + 1, 40];
+
+/// Lengths of lent buffers.
+pub const BUFFERS: [usize; 5] = [0, sheet::LONGEST - 1, sheet::LONGEST, sheet::LONGEST + 1, 1_500];
+
+/// Lengths of lent records.
+pub const RECORDS: [usize; 5] = [0, record::LONGEST - 1, record::LONGEST, record::LONGEST + 1, 700];
+
+/// The lengths of the three tables lent to the judge.
+#[derive(Clone, Copy, Debug)]
+pub struct Lengths {
+    pub authority: usize,
+    pub user: usize,
+    pub counts: usize,
+}
+
+/// Tables that suffice.
+pub const ENOUGH: Lengths = Lengths { authority: PLACES, user: PLACES, counts: DEPTHS };
+
+/// The plain answer with tables of these lengths.
+fn expected<I>(judges: &Judges<I>, input: &[I], lengths: Lengths) -> Answer {
+    if lengths.counts < DEPTHS {
+        return Answer::bare(sheet::TOO_SHORT, 0);
+    }
+    (judges.plain)(input, &mut vec![0; lengths.authority], &mut vec![0; lengths.user])
+}
+
+/// A function of the library that writes into a lent slice, the plain one
+/// beside it, and what draws the slice's old values.
+struct Writer<I, O> {
+    name: &'static str,
+    proved: Writing<I, O>,
+    plain: fn(&[I], &mut [O]) -> (u8, usize),
+    old: fn(&mut Random) -> O,
+}
+
+const REWRITE_SHEET: Writer<u8, u8> = Writer {
+    name: "rewrite_sheet",
+    proved: judge::rewrite_sheet,
+    plain: sheet::rewrite,
+    old: Random::byte,
+};
+
+const WRITE_RECORD: Writer<u16, u8> = Writer {
+    name: "write_record",
+    proved: judge::write_record,
+    plain: record::write_into,
+    old: Random::byte,
+};
+
+const READ_RECORD: Writer<u8, u16> = Writer {
+    name: "read_record",
+    proved: judge::read_record,
+    plain: record::read_into,
+    old: Random::word,
+};
+
+/// The tables lent for one judgement, and what the proved judge returned.
+pub struct Judgement {
+    authority: Lent<u16>,
+    user: Lent<u16>,
+    counts: Lent<u16>,
+    pub judged: Judged,
+}
+
+impl Judgement {
+    /// Has the proved judge judge with tables full of old values.
+    pub fn of<I>(
+        judges: &Judges<I>,
+        input: &[I],
+        lengths: Lengths,
+        random: &mut Random,
+    ) -> Judgement {
+        let mut authority = Lent::new(lengths.authority, random, Random::word);
+        let mut user = Lent::new(lengths.user, random, Random::word);
+        let mut counts = Lent::new(lengths.counts, random, Random::word);
+        let judged = (judges.proved)(input, authority.slice(), user.slice(), counts.slice());
+        Judgement { authority, user, counts, judged }
+    }
+
+    /// Whether number, place, every place of every table and every guard are
+    /// as the answer demands.
+    pub fn shows(&self, answer: &Answer) -> bool {
+        let (mut authority, mut user) = (self.authority.old(), self.user.old());
+        answer.fill(&mut authority, &mut user);
+        let mut counts = self.counts.old();
+        if answer.number != sheet::TOO_SHORT {
+            counts[..DEPTHS].copy_from_slice(&answer.counts);
+        }
+        self.judged == Judged { number: answer.number, place: answer.place }
+            && self.authority.holds(&authority)
+            && self.user.holds(&user)
+            && self.counts.holds(&counts)
+    }
+}
+
+/// The run so far.
+pub struct Run {
+    pub random: Random,
+    pub passed: usize,
+    pub failed: usize,
+    pub trees: usize,
+    pub over_cap: usize,
+}
+
+impl Run {
+    /// Counts one check; a failure is printed with its input in hex.
+    pub fn check<I: UpperHex>(&mut self, holds: bool, what: impl FnOnce() -> String, input: &[I]) {
+        if holds {
+            self.passed += 1;
+            return;
+        }
+        self.failed += 1;
+        if self.failed <= SHOWN {
+            let digits = 2 * size_of::<I>();
+            let hex: Vec<String> = input.iter().map(|part| format!("{part:0digits$X}")).collect();
+            println!("FAILED {}: {}", what(), hex.join(" "));
+        }
+    }
+
+    /// One sheet or record, one set of tables: the proved judge against an
+    /// answer of the graph judge.
+    fn answered<I: UpperHex>(
+        &mut self,
+        judges: &Judges<I>,
+        input: &[I],
+        lengths: Lengths,
+        expected: &Answer,
+    ) -> Judgement {
+        let judgement = Judgement::of(judges, input, lengths, &mut self.random);
+        let (name, got) = (judges.name, judgement.judged);
+        let what = || format!("{name} and graph differ, {lengths:?}, {got:?}, graph {expected:?}");
+        self.check(judgement.shows(expected), what, input);
+        judgement
+    }
+
+    /// One sheet, one set of tables: the proved judge, on the sheet and on its
+    /// record, against the graph judge and, within the cap, the tree judge.
+    /// Returns the expected answer.
+    pub fn judge(&mut self, sheet: &[u8], lengths: Lengths, cap: usize) -> Answer {
+        let expected = expected(&JUDGE_SHEET, sheet, lengths);
+        let judgement = self.answered(&JUDGE_SHEET, sheet, lengths, &expected);
+        if let Ok(path) = sheet::read(sheet) {
+            if !expected.is_refusal() {
+                self.grow(&path, sheet, &judgement, cap);
+            }
+            self.answered(&JUDGE_RECORD, &record::numbers(&path), lengths, &expected);
+        }
+        expected
+    }
+
+    /// One record, one set of tables: the proved judge against the graph
+    /// judge. Returns the expected answer.
+    pub fn judge_record(&mut self, record: &[u16], lengths: Lengths) -> Answer {
+        let expected = expected(&JUDGE_RECORD, record, lengths);
+        self.answered(&JUDGE_RECORD, record, lengths, &expected);
+        expected
+    }
+
+    /// One judgement against the tree judge, within the cap.
+    fn grow(&mut self, path: &Path, sheet: &[u8], judgement: &Judgement, cap: usize) {
+        let Some(answer) = tree::judge(path, cap) else {
+            self.over_cap += 1;
+            return;
+        };
+        self.trees += 1;
+        let what = || format!("judge and tree differ, {:?}, tree {answer:?}", judgement.judged);
+        self.check(judgement.shows(&answer), what, sheet);
+    }
+
+    /// One input, one lent slice full of old values: the proved function
+    /// against the plain one. Returns what the plain one wrote.
+    fn written<I: UpperHex, O: Copy + PartialEq>(
+        &mut self,
+        writer: &Writer<I, O>,
+        input: &[I],
+        length: usize,
+    ) -> Vec<O> {
+        let mut lent = Lent::new(length, &mut self.random, writer.old);
+        let got = (writer.proved)(input, lent.slice());
+        let mut expected = lent.old();
+        let (number, length) = (writer.plain)(input, &mut expected);
+        let same = got == Written { number, length } && lent.holds(&expected);
+        let what = || format!("{} differs, {got:?}, plain {number} {length}", writer.name);
+        self.check(same, what, input);
+        expected.truncate(length);
+        expected
+    }
+
+    /// One sheet, one buffer: the proved reader and writer against the codec,
+    /// and the sheet's record written.
+    pub fn rewrite(&mut self, sheet: &[u8], length: usize) {
+        let mut written = vec![self.written(&REWRITE_SHEET, sheet, length)];
+        if let Ok(path) = sheet::read(sheet) {
+            written.push(self.write_record(&record::numbers(&path), length));
+        }
+        let again = written.iter().all(|written| written.is_empty() || written == sheet);
+        self.check(again, || "the codec writes another sheet".to_string(), sheet);
+    }
+
+    /// One record, one buffer: the proved writer against the codec. Returns
+    /// what the codec wrote.
+    pub fn write_record(&mut self, record: &[u16], length: usize) -> Vec<u8> {
+        self.written(&WRITE_RECORD, record, length)
+    }
+
+    /// One sheet, one lent record: the proved reader against the codec.
+    pub fn read_record(&mut self, sheet: &[u8], length: usize) {
+        self.written(&READ_RECORD, sheet, length);
+    }
+
+    /// Lengths for random input, short ones now and then.
+    pub fn draw_lengths(&mut self) -> Lengths {
+        let least = if self.random.chance(8) { 0 } else { 2 };
+        let table = |random: &mut Random| random.pick(&TABLES[least..]);
+        Lengths {
+            authority: table(&mut self.random),
+            user: table(&mut self.random),
+            counts: if self.random.chance(2) { self.random.pick(&COUNTS) } else { DEPTHS },
+        }
+    }
+
+    /// One of the lengths, of which the third suffices, for random input: that
+    /// one more often than not.
+    pub fn draw_length(&mut self, lengths: &[usize; 5]) -> usize {
+        if self.random.chance(5) {
+            self.random.pick(lengths)
+        } else {
+            lengths[2]
+        }
+    }
+}
