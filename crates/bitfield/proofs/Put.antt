@@ -252,6 +252,12 @@ put-split s k m n v =
     front : (i : ℕ) → k ≤ i → i < k + m → v / 2 ^ (k + (m + n) - suc i) % 2 ≡ v / 2 ^ n / 2 ^ (k + m - suc i) % 2
     front i a b = ap (λ e. v / 2 ^ e % 2) (omega arith) ∙ ap (λ x. x % 2) (sym (shr-shr v n (k + m - suc i)))
 
+-- sixteen bits that start b bits into a byte: the byte's last bits, the next byte, and the first b bits of the one after it
+pub put-word : (s : List ℕ) (k b v : ℕ) → b ≤ 8 → put-field s k 16 v ≡ put-field (put-field (put-field s k (8 - b) (v / 2 ^ (8 + b))) (k + (8 - b)) 8 (v / 2 ^ b)) (k + (8 - b) + 8) b v
+put-word s k b v h =
+    let all : 16 ≡ 8 - b + (8 + b) = omega arith in
+    ap (λ n. put-field s k n v) all ∙ put-split s k (8 - b) (8 + b) v ∙ put-split (put-field s k (8 - b) (v / 2 ^ (8 + b))) (k + (8 - b)) 8 b v
+
 -- a field within one byte: the byte's front, the value's last w bits and the byte's last bits, side by side
 abbrev pub spliced : ℕ → ℕ → ℕ → ℕ → ℕ
 spliced b w low v = (b / 2 ^ (w + low) * 2 ^ w + v % 2 ^ w) * 2 ^ low + b % 2 ^ low

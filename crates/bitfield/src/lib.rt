@@ -100,6 +100,20 @@ fn write_part(s: &mut [u8], at: usize, width: usize, value: u16)
     s[place] = splice(s[place], width, 8 - at % 8 - width, value);
 }
 
+// Puts the sixteen bits of `value` at bit position `at`, and keeps every other bit: a part for each byte that they touch.
+pub fn write_word(s: &mut [u8], at: usize, value: u16)
+    requires { ⌜ (at < 65536) × (at + 16 ≤ 8 * length (now s)) ⌝ }
+    ensures { λ r. ⌜ now (s .exit) ≡ put-field (now (s .entry)) at 16 value ⌝ }
+{
+    let before = at % 8;
+    let next = at + (8 - before);
+    write_part(s, at, 8 - before, value >> (8 + before));
+    write_part(s, next, 8, value >> before);
+    if before != 0 {
+        write_part(s, next + 8, before, value);
+    }
+}
+
 // Puts the last `width` bits of `value` at bit position `at`, and keeps every other bit.
 pub fn write_field(s: &mut [u8], at: usize, width: usize, value: u16)
     requires { ⌜ (width ≤ 16) × (at < 65536) × (at + width ≤ 8 * length (now s)) ⌝ }

@@ -1,5 +1,6 @@
 // The parts of a sheet, written into a lent buffer. Each function writes its fields from a bit position and returns the next.
 use bitfield::write_field;
+use bitfield::write_word;
 ghost use mathlib.Core.Path.{_≡_};
 ghost use mathlib.Core.List.{[], _∷_};
 ghost use Prim.Native.Nat.{_≤_};
@@ -18,6 +19,15 @@ pub fn put(buffer: &mut [u8], at: usize, width: usize, value: u16) -> usize
 {
     write_field(buffer, at, width, value);
     at + width
+}
+
+// One field of sixteen bits.
+fn put_word(buffer: &mut [u8], at: usize, value: u16) -> usize
+    requires { ⌜ Room (now buffer) at (16 # value ∷ []) ⌝ }
+    ensures { λ r. ⌜ Puts (now (buffer .entry)) at (16 # value ∷ []) (now (buffer .exit)) r ⌝ }
+{
+    write_word(buffer, at, value);
+    at + 16
 }
 
 pub fn write_flag(buffer: &mut [u8], at: usize, set: bool) -> usize
@@ -39,7 +49,7 @@ pub fn write_policies(buffer: &mut [u8], at: usize, values: &[u16]) -> usize
     let mut next = at;
     let mut i = 0;
     while i < values.len() {
-        next = put(buffer, next, 16, values[i]);
+        next = put_word(buffer, next, values[i]);
         i += 1;
     }
     next
@@ -54,8 +64,8 @@ fn write_mappings(buffer: &mut [u8], at: usize, issuers: &[u16], subjects: &[u16
     let mut next = at;
     let mut i = 0;
     while i < issuers.len() {
-        let subject = put(buffer, next, 16, issuers[i]);
-        next = put(buffer, subject, 16, subjects[i]);
+        let subject = put_word(buffer, next, issuers[i]);
+        next = put_word(buffer, subject, subjects[i]);
         i += 1;
     }
     next

@@ -39,33 +39,33 @@ left c =
     mappings-left (l .loop .i) (issuers l) (subjects l) (omega arith) (omega arith)
 
 -- after the issuer the subject and the later pairs are left
-subject-left : (c : tie.After-put Inv-loop μ-loop) → let l = c .before .before .before .before in let i = l .loop .i in Leaves (begun l .args .buffer .now) (begun l .args .at) (mapping-fields (pairs (issuers l) (subjects l))) (c .put .last .0) (c .put .result) (16 # getD (subjects l) i 0 ∷ from l (i + 1))
+subject-left : (c : tie.After-put-word Inv-loop μ-loop) → let l = c .before .before .before .before in let i = l .loop .i in Leaves (begun l .args .buffer .now) (begun l .args .at) (mapping-fields (pairs (issuers l) (subjects l))) (c .put-word .last .0) (c .put-word .result) (16 # getD (subjects l) i 0 ∷ from l (i + 1))
 subject-left c =
     let b = c .before .before .before in
-    leaves-next (b .before .loop .inv .1) (_ ∷ []) _ (left b) (c .put .ensures)
+    leaves-next (b .before .loop .inv .1) (_ ∷ []) _ (left b) (c .put-word .ensures)
 
 loop-holds : tie.Need-loop-holds Inv-loop μ-loop
 loop-holds c = (omega arith, leaves-all (c .before .before .before .pre .1))
 
-mul-put : tie.Need-mul-put Inv-loop μ-loop
-mul-put c = omega arith
+mul-put-word : tie.Need-mul-put-word Inv-loop μ-loop
+mul-put-word c = omega arith
 
-shared-slice-read-put : tie.Need-shared-slice-read-put Inv-loop μ-loop
-shared-slice-read-put c = omega arith
+shared-slice-read-put-word : tie.Need-shared-slice-read-put-word Inv-loop μ-loop
+shared-slice-read-put-word c = omega arith
 
-put-requires : tie.Need-put-requires Inv-loop μ-loop
-put-requires c κs =
+put-word-requires : tie.Need-put-word-requires Inv-loop μ-loop
+put-word-requires c κs =
     let b = c .before .before in
-    (omega arith, leaves-room (b .before .loop .inv .1) (_ ∷ []) _ (left b))
+    leaves-room (b .before .loop .inv .1) (_ ∷ []) _ (left b)
 
-mul-put-2 : tie.Need-mul-put-2 Inv-loop μ-loop
-mul-put-2 c = omega arith
+mul-put-word-2 : tie.Need-mul-put-word-2 Inv-loop μ-loop
+mul-put-word-2 c = omega arith
 
-shared-slice-read-put-2 : tie.Need-shared-slice-read-put-2 Inv-loop μ-loop
-shared-slice-read-put-2 c = omega arith
+shared-slice-read-put-word-2 : tie.Need-shared-slice-read-put-word-2 Inv-loop μ-loop
+shared-slice-read-put-word-2 c = omega arith
 
-put-requires-2 : tie.Need-put-requires-2 Inv-loop μ-loop
-put-requires-2 c κs = (omega arith, leaves-room (subject-left (c .before .before .before .before)) (_ ∷ []) _ refl)
+put-word-requires-2 : tie.Need-put-word-requires-2 Inv-loop μ-loop
+put-word-requires-2 c κs = leaves-room (subject-left (c .before .before .before .before)) (_ ∷ []) _ refl
 
 add-i : tie.Need-add-i Inv-loop μ-loop
 add-i c = omega arith
@@ -75,7 +75,7 @@ loop-less c = omega arith
 
 loop-again : tie.Need-loop-again Inv-loop μ-loop
 loop-again c =
-    (omega arith, leaves-next (subject-left (c .before .before .before .before .before .before .before)) (_ ∷ []) _ refl (c .before .before .put2 .ensures))
+    (omega arith, leaves-next (subject-left (c .before .before .before .before .before .before .before)) (_ ∷ []) _ refl (c .before .before .put-word2 .ensures))
 
 all-put : (c : tie.After-loop Inv-loop μ-loop) → let l = c .before in Puts (begun l .args .buffer .now) (begun l .args .at) (mapping-fields (pairs (issuers l) (subjects l))) (l .loop .buffer) (l .loop .next)
 all-put c =
@@ -95,12 +95,12 @@ write-mappings-spec =
     Inv-loop
     μ-loop
     loop-holds
-    mul-put
-    shared-slice-read-put
-    put-requires
-    mul-put-2
-    shared-slice-read-put-2
-    put-requires-2
+    mul-put-word
+    shared-slice-read-put-word
+    put-word-requires
+    mul-put-word-2
+    shared-slice-read-put-word-2
+    put-word-requires-2
     add-i
     loop-less
     loop-again

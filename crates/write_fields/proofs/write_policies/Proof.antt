@@ -32,16 +32,16 @@ left c = policies-left (c .before .loop .i) (policies (c .before)) (omega arith)
 loop-holds : tie.Need-loop-holds Inv-loop μ-loop
 loop-holds c = (omega arith, leaves-all (c .before .before .pre))
 
-mul-put : tie.Need-mul-put Inv-loop μ-loop
-mul-put c = omega arith
+mul-put-word : tie.Need-mul-put-word Inv-loop μ-loop
+mul-put-word c = omega arith
 
-shared-slice-read-put : tie.Need-shared-slice-read-put Inv-loop μ-loop
-shared-slice-read-put c = omega arith
+shared-slice-read-put-word : tie.Need-shared-slice-read-put-word Inv-loop μ-loop
+shared-slice-read-put-word c = omega arith
 
-put-requires : tie.Need-put-requires Inv-loop μ-loop
-put-requires c κs =
+put-word-requires : tie.Need-put-word-requires Inv-loop μ-loop
+put-word-requires c κs =
     let b = c .before .before in
-    (omega arith, leaves-room (b .before .loop .inv .1) (_ ∷ []) _ (left b))
+    leaves-room (b .before .loop .inv .1) (_ ∷ []) _ (left b)
 
 add-i : tie.Need-add-i Inv-loop μ-loop
 add-i c = omega arith
@@ -52,7 +52,7 @@ loop-less c = omega arith
 loop-again : tie.Need-loop-again Inv-loop μ-loop
 loop-again c =
     let b = c .before .before .before .before .before in
-    (omega arith, leaves-next (b .before .loop .inv .1) (_ ∷ []) _ (left b) (c .before .before .put .ensures))
+    (omega arith, leaves-next (b .before .loop .inv .1) (_ ∷ []) _ (left b) (c .before .before .put-word .ensures))
 
 all-put : (c : tie.After-loop Inv-loop μ-loop) → let l = c .before in Puts (begun l .args .buffer .now) (begun l .args .at) (policy-fields (policies l)) (l .loop .buffer) (l .loop .next)
 all-put c =
@@ -72,9 +72,9 @@ write-policies-spec =
     Inv-loop
     μ-loop
     loop-holds
-    mul-put
-    shared-slice-read-put
-    put-requires
+    mul-put-word
+    shared-slice-read-put-word
+    put-word-requires
     add-i
     loop-less
     loop-again
