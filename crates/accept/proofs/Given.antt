@@ -5,18 +5,17 @@ use mathlib.Core.List.{List, [], _∷_, map}
 use mathlib.Core.Path.{_≡_, sym, subst}
 use mathlib.Core.Logic.{⊎-elim}
 use native.Mathlib.Omega.{arith}
-use lib.ListN.{length, getD, length-append}
+use lib.ListN.{length, getD}
 use Rattle.rules.specs.Limits as Limits
-use Rattle.rules.specs.Sets.{each}
 use Rattle.rules.specs.Paths.{Certificate, Path}
 use Rattle.laws.proofs.Sets.{In, In-cons, Unique}
 use Rattle.agreement.proofs.Same.{WellFormed}
 use Rattle.sheet.proofs.Faults.{no-repeats}
 use Rattle.sheet.proofs.WellFormed.{not-empty}
-use Rattle.record.specs.Record.{certificate-head-places, packed-certificate, head, packed, most-places}
+use Rattle.record.specs.Record.{packed, most-places}
 use Rattle.record.specs.Unpacked.{unpacked-certificate, after-certificate, unpacked-certificates, unpacked}
 use Rattle.record.specs.Within.{FewInCertificate, Few}
-use Rattle.record.proofs.Stands.{certificate-length}
+use Rattle.record.proofs.Few.{few-most}
 use Rattle.given.specs.Given.{bounded, path-given}
 use Rattle.given.specs.Faults.{certificates-record-fault, record-fault}
 use Rattle.accept.proofs.Steps.{after-users}
@@ -66,22 +65,6 @@ pub given-well-formed : (r : List ℕ) → record-fault r ≡ 0 → WellFormed (
 unfolding path-given unpacked
 given-well-formed r e =
     record { some-certificate = not-empty _ (given-some r e); no-repeats = unique-all (getD r 0 0) (after-users r) (sound-path r e .certificates) }
-
--- a path within the limits
-
-certificates-most : (cs : List Certificate) → ((i : ℕ) (d : Certificate) → i < length cs → FewInCertificate (getD cs i d))
-    → length (each packed-certificate cs) ≤ length cs * (certificate-head-places + Limits.listed + Limits.listed + Limits.listed)
-unfolding each
-certificates-most [] f = omega arith
-certificates-most (c ∷ cs) f =
-    let g = f 0 c (omega arith) in
-    omega
-    (arith, length-append (packed-certificate c) (each packed-certificate cs), certificate-length c, g .policies, g .mappings, certificates-most cs (λ i d h. f (suc i) d (omega arith)))
-
-few-most : (p : Path) → Few p → length (packed p) ≤ most-places
-unfolding packed head
-few-most p f =
-    omega (arith, length-append (p .user-list) (each packed-certificate (p .certificates)), f .users, f .certificates, certificates-most (p .certificates) (f .each-certificate))
 
 pub given-most : (r : List ℕ) → record-fault r ≡ 0 → length (packed (path-given r)) ≤ most-places
 given-most r e = few-most (path-given r) (given-few r e)

@@ -10,15 +10,8 @@ use Rattle.rules.specs.Faults.{present-fault, listed-fault}
 use Rattle.rules.specs.Sheet.{Read, refused, read, _then_, read-field, read-flag, read-policies, read-mappings, read-listed, read-mapped, read-skip, read-certificate}
 use Rattle.read_fields.specs.Fields.{read-count}
 use Rattle.read_lists.specs.Lists.{list-fault}
+use Rattle.read_lists.proofs.Readings.{then-refused, then-read}
 use Rattle.read_certificate.specs.Certificate.{Lists, SkipValues, read-lists, read-skips}
-
-pub then-refused : {A B : Type 0} {x : Read A} {k : ℕ} (next : A → ℕ → Read B) → x ≡ refused k → (x then next) ≡ refused k
-unfolding _then_
-then-refused next e = λ i. e i then next
-
-pub then-read : {A B : Type 0} {x : Read A} {a : A} {n : ℕ} (next : A → ℕ → Read B) → x ≡ read a n → (x then next) ≡ next a n
-unfolding _then_
-then-read next e = λ i. e i then next
 
 pub then-then : {A B C : Type 0} (x : Read A) (f : A → ℕ → Read B) (g : B → ℕ → Read C) → ((x then f) then g) ≡ (x then λ a n. f a n then g)
 unfolding _then_

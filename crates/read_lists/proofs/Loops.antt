@@ -15,7 +15,8 @@ use Rattle.rules.specs.Faults.{policy-fault}
 use Rattle.rules.specs.Sheet.{Read, refused, read, _then_, checked, read-field, read-policies, read-mappings}
 use Rattle.read_fields.proofs.Fields.{field-ends, field-here, checked-fault, checked-none}
 use Rattle.read_lists.specs.Lists.{list-fault, sides, number-of, Reads}
-use Rattle.read_lists.proofs.Stores.{length-snoc, sets-append, sets-more, pair-more, stretch}
+use Rattle.record.proofs.Put.{sets-append}
+use Rattle.read_lists.proofs.Stores.{length-snoc, sets-more, pair-more, stretch}
 use Rattle.read_lists.proofs.Readings.{then-refused, then-read, policies-end, policies-more, after-issuer, mappings-end, mappings-more}
 
 -- the fault of a policy that is 0; and of one that is not, in any list, and in a distinct list, where it may repeat
@@ -161,7 +162,7 @@ module _ (s : List ℕ) (count at : ℕ) (r₀ : List ℕ) (k : ℕ) where
         let all : count ≡ length issuers = omega (arith, l .passed, l .within, length-map (l .so-far) (λ m. m .issuer)) in
         reads-all sides r₀ k r
         (l .rest ∙ ap (λ m. read-mappings s m (l .so-far) next) none ∙ mappings-end s (l .so-far) next)
-        (l .holds ∙ ap (λ n. sets (sets r₀ k issuers) (k + n) subjects) all ∙ sets-append r₀ k issuers subjects)
+        (l .holds ∙ ap (λ n. sets (sets r₀ k issuers) (k + n) subjects) all ∙ sym (sets-append r₀ k issuers subjects))
 
     module _ (h : i < count) where
       abbrev left : ℕ

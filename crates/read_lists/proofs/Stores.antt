@@ -8,11 +8,10 @@ use mathlib.Core.List.{List, [], _∷_, _++_, append-assoc}
 use mathlib.Core.Path.{_≡_, refl, ap, sym, _∙_}
 use borrow.Author.Tests.{ne-eqb}
 use lib.ListN.{length, take, drop, set, getD, length-append}
-use lib.Seq.{sets, sets-eq, set-comm, take-suc, take-append-seam, drop-at, length-take-le}
+use lib.Seq.{sets, sets-eq, take-suc, take-append-seam, drop-at, length-take-le}
 use Rattle.rules.specs.Sets.{_∈_}
 use Rattle.laws.proofs.Sets.{mem-append, eqb-same, or-right, or-false}
-use Rattle.record.specs.Puts.{Puts}
-use Rattle.record.proofs.Put.{puts-both}
+use Rattle.record.proofs.Put.{sets-append, set-before}
 
 pub mem-none : (p : ℕ) → p ∈ [] ≡ false
 unfolding _∈_
@@ -33,21 +32,9 @@ module _ (vs : List ℕ) (i p : ℕ) (h : i < length vs) where
 pub length-snoc : {A : Type 0} (xs : List A) (x : A) → length (xs ++ (x ∷ [])) ≡ length xs + 1
 length-snoc xs x = length-append xs (x ∷ [])
 
-pub sets-append : (s : List ℕ) (k : ℕ) (xs ys : List ℕ) → sets (sets s k xs) (k + length xs) ys ≡ sets s k (xs ++ ys)
-sets-append s k xs ys =
-    let p : Puts s k xs (sets s k xs) (k + length xs) = record { next = refl; places = refl } in
-    let q : Puts (sets s k xs) (k + length xs) ys (sets (sets s k xs) (k + length xs) ys) (k + length xs + length ys) = record { next = refl; places = refl } in
-    puts-both p q .places
-
 -- one number more
 pub sets-more : (s : List ℕ) (k : ℕ) (xs : List ℕ) (x i : ℕ) → length xs ≡ i → set (sets s k xs) (k + i) x ≡ sets s k (xs ++ (x ∷ []))
-sets-more s k xs x i e = ap (λ n. set (sets s k xs) (k + n) x) (sym e) ∙ sets-append s k xs (x ∷ [])
-
--- a store before a stretch and the stretch: either may come first
-pub set-sets : (s : List ℕ) (k : ℕ) (xs : List ℕ) (j x : ℕ) → j < k → set (sets s k xs) j x ≡ sets (set s j x) k xs
-set-sets s k [] j x h = refl
-set-sets s k (y ∷ xs) j x h =
-    set-sets (set s k y) (suc k) xs j x (omega arith) ∙ ap (λ t. sets t (suc k) xs) (set-comm s k j y x (λ e. omega arith))
+sets-more s k xs x i e = ap (λ n. set (sets s k xs) (k + n) x) (sym e) ∙ sym (sets-append s k xs (x ∷ []))
 
 -- the stretch itself
 pub stretch : (s : List ℕ) (k : ℕ) (xs : List ℕ) → k + length xs ≤ length s → take (length xs) (drop k (sets s k xs)) ≡ xs
@@ -59,5 +46,5 @@ stretch s k xs h =
 pub pair-more : (s : List ℕ) (k m : ℕ) (xs ys : List ℕ) (x y i : ℕ) → length xs ≡ i → length ys ≡ i → i < m
     → set (set (sets (sets s k xs) (k + m) ys) (k + i) x) (k + m + i) y ≡ sets (sets s k (xs ++ (x ∷ []))) (k + m) (ys ++ (y ∷ []))
 pair-more s k m xs ys x y i d e h =
-    ap (λ t. set t (k + m + i) y) (set-sets (sets s k xs) (k + m) ys (k + i) x (omega arith) ∙ ap (λ t. sets t (k + m) ys) (sets-more s k xs x i d))
+    ap (λ t. set t (k + m + i) y) (set-before (sets s k xs) (k + m) ys (k + i) x (omega arith) ∙ ap (λ t. sets t (k + m) ys) (sets-more s k xs x i d))
     ∙ sets-more (sets s k (xs ++ (x ∷ []))) (k + m) ys y i e

@@ -23,11 +23,10 @@ use Rattle.read_fields.proofs.Bits.{bits-past, bits-within}
 use Rattle.read_fields.proofs.Fields.{checked-fault, checked-none, field-ends, field-here, flag-ends, flag-here, part}
 use Rattle.sheet.proofs.Readers.{read-value, read-place, not-refused, then-back}
 use Rattle.read_lists.specs.Lists.{list-fault}
-use Rattle.read_lists.proofs.Readings.{policies-at}
 use Rattle.read_certificate.specs.declared.Next.{Next}
 use Rattle.read_certificate.specs.Certificate.{as-next}
 use Rattle.read_certificate.proofs.Reach.{Reach, stopped, reached, reach-then, field-then, flag-reach, policies-reach}
-use Rattle.read_certificate.proofs.Rows.{then-refused, then-read}
+use Rattle.read_lists.proofs.Readings.{then-refused, then-read, policies-at}
 use Rattle.reader.specs.Head.{Start, read-start, start-fault, Head, read-head, start-numbers, numbers-of-head}
 
 -- the start inputs that sixteen bits write

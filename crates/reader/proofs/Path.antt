@@ -15,7 +15,8 @@ use Rattle.rules.specs.Sheet.{Read, refused, read, _then_, read-field, read-fla
 use Rattle.record.specs.Record.{head-numbers, head, packed-certificate, packed}
 use Rattle.record.proofs.Put.{sets-append}
 use Rattle.read_certificate.proofs.Reach.{certificate-span}
-use Rattle.read_certificate.proofs.Rows.{then-refused, then-read, then-then}
+use Rattle.read_lists.proofs.Readings.{then-refused, then-read}
+use Rattle.read_certificate.proofs.Rows.{then-then}
 use Rattle.reader.specs.Head.{Start, read-start, Head, read-head, start-numbers, numbers-of-head}
 
 -- a path from its head and its certificates

@@ -26,7 +26,7 @@ use Rattle.read_certificate.specs.declared.Next.{Next}
 use Rattle.read_certificate.specs.Certificate.{Reads, as-next}
 use Rattle.read_certificate.proofs.Reach.{Reach, stopped, reached, reach-then, field-then, flag-reach, policies-reach, certificates-reach, certificate-span}
 use Rattle.read_certificate.proofs.Answers.{nexts, was-read}
-use Rattle.read_certificate.proofs.Rows.{then-refused, then-read}
+use Rattle.read_lists.proofs.Readings.{then-refused, then-read}
 use Rattle.reader.proofs.Path.{path-fields}
 
 -- the most bits of a path, for counts of five bits and an n of four
