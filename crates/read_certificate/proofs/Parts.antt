@@ -19,11 +19,10 @@ use Rattle.record.proofs.Put.{sets-append, sets-before}
 use Rattle.read_fields.specs.declared.Number.{Number}
 use Rattle.read_fields.specs.Fields.{as-number, read-count}
 use Rattle.read_fields.proofs.Fields.{flag-clear, flag-set, present-within}
-use Rattle.read_lists.specs.Lists.{sides, number-of}
-use Rattle.read_lists.specs.Lists as lists
+use Rattle.read_lists.specs.Lists.{sides, number-of, Reads}
 use Rattle.read_lists.proofs.Readings.{policies-at, mappings-at}
 use Rattle.read_certificate.specs.declared.Body.{Body}
-use Rattle.read_certificate.specs.Certificate.{Reads, as-body}
+use Rattle.read_certificate.specs.Certificate.{as-body}
 use Rattle.read_certificate.proofs.Reach.{Reach, policies-reach, mappings-reach, count-reach}
 use Rattle.read_certificate.proofs.Answers.{faults, was-refused, was-read, number-was}
 
@@ -61,10 +60,10 @@ module _ (s : List ℕ) where
     pub count : length value ≡ m
     pub places : t ≡ sets rec place value
 
-  pub policies-were : (fault : List ℕ → ℕ → ℕ) (m at : ℕ) (rec : List ℕ) (place : ℕ) (t : List ℕ) (r : ℕ) → lists.Reads (read-policies s fault m [] at) (λ ps. ps) rec place t r → r ≡ 0 → PoliciesWere fault m at rec place t
+  pub policies-were : (fault : List ℕ → ℕ → ℕ) (m at : ℕ) (rec : List ℕ) (place : ℕ) (t : List ℕ) (r : ℕ) → Reads number-of (read-policies s fault m [] at) (λ ps. ps) rec place t r → r ≡ 0 → PoliciesWere fault m at rec place t
   policies-were fault m at rec place t r e z =
       let x = read-policies s fault m [] at in
-      let was = was-read (faults (List ℕ)) (at + 16 * m) x (policies-reach s fault m [] at) r (e .number) z in
+      let was = was-read (faults (List ℕ)) (at + 16 * m) x (policies-reach s fault m [] at) r (e .said) z in
       let law = policies-at s fault m at (was .value) (was .at) (was .said) in
       record { value = was .value; said = was .said ∙ ap (read (was .value)) (law .0); count = law .1; places = e .places (was .value) (was .at) (was .said) }
 
@@ -74,10 +73,10 @@ module _ (s : List ℕ) where
     pub count : length value ≡ m
     pub places : t ≡ sets rec place (sides value)
 
-  pub mappings-were : (m at : ℕ) (rec : List ℕ) (place : ℕ) (t : List ℕ) (r : ℕ) → lists.Reads (read-mappings s m [] at) sides rec place t r → r ≡ 0 → MappingsWere m at rec place t
+  pub mappings-were : (m at : ℕ) (rec : List ℕ) (place : ℕ) (t : List ℕ) (r : ℕ) → Reads number-of (read-mappings s m [] at) sides rec place t r → r ≡ 0 → MappingsWere m at rec place t
   mappings-were m at rec place t r e z =
       let x = read-mappings s m [] at in
-      let was = was-read (faults (List Mapping)) (at + 32 * m) x (mappings-reach s m [] at) r (e .number) z in
+      let was = was-read (faults (List Mapping)) (at + 32 * m) x (mappings-reach s m [] at) r (e .said) z in
       let law = mappings-at s m at (was .value) (was .at) (was .said) in
       record { value = was .value; said = was .said ∙ ap (read (was .value)) (law .0); count = law .1; places = e .places (was .value) (was .at) (was .said) }
 
@@ -86,8 +85,8 @@ pub few-refused : (r : Body) {k : ℕ} → r ≡ as-body (refused k) → (r .pol
 few-refused r e = (omega (arith, ap (λ (r : Body). r .policies) e), omega (arith, ap (λ (r : Body). r .pairs) e))
 
 -- a list whose reading has a fault
-pub fault-was : {A : Type 0} (x : Read A) (numbers : A → List ℕ) (s : List ℕ) (k : ℕ) (t : List ℕ) (r : ℕ) → lists.Reads x numbers s k t r → (r ≡ 0 → ⊥) → x ≡ refused r
-fault-was x numbers s k t r e z = was-refused (faults _) x r (e .number) z
+pub fault-was : {A : Type 0} (x : Read A) (numbers : A → List ℕ) (s : List ℕ) (k : ℕ) (t : List ℕ) (r : ℕ) → Reads number-of x numbers s k t r → (r ≡ 0 → ⊥) → x ≡ refused r
+fault-was x numbers s k t r e z = was-refused (faults _) x r (e .said) z
 
 -- two stretches, one after the other
 pub joined : (s : List ℕ) (k : ℕ) (xs ys : List ℕ) {t u : List ℕ} {n : ℕ} → length xs ≡ n → t ≡ sets s k xs → u ≡ sets t (k + n) ys → u ≡ sets s k (xs ++ ys)

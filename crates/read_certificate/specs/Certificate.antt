@@ -1,9 +1,7 @@
 -- What reading a certificate of the sheet into a record gives.
 use Prim.Native.Nat.{ℕ, _+_}
 use mathlib.Core.List.{List, _++_}
-use mathlib.Core.Path.{_≡_}
 use lib.ListN.{length}
-use lib.Seq.{sets}
 use Rattle.rules.specs.declared.Skip.{Skip}
 use Rattle.rules.specs.Numbers as Numbers
 use Rattle.rules.specs.Paths.{Mapping}
@@ -13,11 +11,6 @@ use Rattle.read_lists.specs.Lists.{sides}
 use Rattle.read_certificate.specs.declared.Body.{Body}
 use Rattle.read_certificate.specs.declared.Skips.{Skips}
 use Rattle.read_certificate.specs.declared.Next.{Next}
-
--- r is what holds the reading x in the code's own type; where x gives a value, t is s with the value's numbers from place k on
-pub record Reads {A R : Type 0} (held : Read A → R) (x : Read A) (numbers : A → List ℕ) (s : List ℕ) (k : ℕ) (t : List ℕ) (r : R) : Type 0 where
-  pub said : r ≡ held x
-  pub places : (a : A) (at : ℕ) → x ≡ read a at → t ≡ sets s k (numbers a)
 
 -- a certificate's policies and pairs
 pub record Lists : Type 0 where

@@ -61,11 +61,11 @@ module _ (s : List ℕ) (w : ℕ) (fault : ℕ → ℕ) (at v : ℕ) (h : at + w
 
 -- what a function answers for a refusal, and for a list that was read
 module _ {A : Type 0} {x : Read A} (numbers : A → List ℕ) (s : List ℕ) (k : ℕ) (t : List ℕ) where
-  pub reads-refused : {n : ℕ} → x ≡ refused n → Reads x numbers s k t n
-  reads-refused e = record { number = sym (ap number-of e); places = λ a at r. let z : _≡_ {A = ℕ} 0 1 = cc in absurd (omega arith) }
+  pub reads-refused : {n : ℕ} → x ≡ refused n → Reads number-of x numbers s k t n
+  reads-refused e = record { said = sym (ap number-of e); places = λ a at r. let z : _≡_ {A = ℕ} 0 1 = cc in absurd (omega arith) }
 
-  pub reads-all : {a : A} {n : ℕ} → x ≡ read a n → t ≡ sets s k (numbers a) → Reads x numbers s k t Numbers.valid
-  reads-all e p = record { number = sym (ap number-of e); places = λ a at r. cc }
+  pub reads-all : {a : A} {n : ℕ} → x ≡ read a n → t ≡ sets s k (numbers a) → Reads number-of x numbers s k t Numbers.valid
+  reads-all e p = record { said = sym (ap number-of e); places = λ a at r. cc }
 
 -- i of `count` policies were read, into the record r from place k on, up to `next`
 pub record PoliciesSoFar (s : List ℕ) (fault : List ℕ → ℕ → ℕ) (count at : ℕ) (r₀ : List ℕ) (k : ℕ) (r : List ℕ) (next i : ℕ) : Type 0 where
@@ -96,7 +96,7 @@ module _ (s : List ℕ) (fault : List ℕ → ℕ → ℕ) (count at : ℕ) (r�
     pub policies-seen : (p : ℕ) {b m : Bool} → k + count ≤ length r₀ → b ≡ (p ∈ take i (take (length r - k) (drop k r))) → b ≡ m → p ∈ l .so-far ≡ m
     policies-seen p h e f = ap (λ ps. p ∈ ps) (sym (policies-before h)) ∙ sym e ∙ f
 
-    pub policies-done : count ≤ i → Reads (read-policies s fault count [] at) (λ ps. ps) r₀ k r Numbers.valid
+    pub policies-done : count ≤ i → Reads number-of (read-policies s fault count [] at) (λ ps. ps) r₀ k r Numbers.valid
     policies-done h =
         let none : count - i ≡ 0 = omega arith in
         reads-all (λ ps. ps) r₀ k r (l .rest ∙ ap (λ m. read-policies s fault m (l .so-far) next) none ∙ policies-end s fault (l .so-far) next) (l .holds)
@@ -110,14 +110,14 @@ module _ (s : List ℕ) (fault : List ℕ → ℕ → ℕ) (count at : ℕ) (r�
           let more : count - i ≡ suc (count - (i + 1)) = omega arith in
           l .rest ∙ ap (λ m. read-policies s fault m (l .so-far) next) more ∙ policies-more s fault (count - (i + 1)) (l .so-far) next
 
-      policies-stop : (n : ℕ) → read-field s 16 (fault (l .so-far)) next ≡ refused n → Reads (read-policies s fault count [] at) (λ ps. ps) r₀ k r n
+      policies-stop : (n : ℕ) → read-field s 16 (fault (l .so-far)) next ≡ refused n → Reads number-of (read-policies s fault count [] at) (λ ps. ps) r₀ k r n
       policies-stop n e = reads-refused (λ ps. ps) r₀ k r (policies-here ∙ then-refused after-policy e)
 
-      pub policies-short : 8 * length s < next + 16 → Reads (read-policies s fault count [] at) (λ ps. ps) r₀ k r Numbers.sheet-ends
+      pub policies-short : 8 * length s < next + 16 → Reads number-of (read-policies s fault count [] at) (λ ps. ps) r₀ k r Numbers.sheet-ends
       policies-short g = policies-stop _ (field-ends s next 16 (fault (l .so-far)) g)
 
       module _ (p : ℕ) (g : next + 16 ≤ 8 * length s) (e : p ≡ field s next 16) where
-        pub policies-refused : (n : ℕ) → fault (l .so-far) p ≡ n → 0 < n → Reads (read-policies s fault count [] at) (λ ps. ps) r₀ k r n
+        pub policies-refused : (n : ℕ) → fault (l .so-far) p ≡ n → 0 < n → Reads number-of (read-policies s fault count [] at) (λ ps. ps) r₀ k r n
         policies-refused n f z = policies-stop n (field-refused s 16 (fault (l .so-far)) next p g e n f z)
 
         pub policies-next : fault (l .so-far) p ≡ 0 → PoliciesSoFar s fault count at r₀ k (set r (k + i) p) (next + 16) (i + 1)
@@ -156,7 +156,7 @@ module _ (s : List ℕ) (count at : ℕ) (r₀ : List ℕ) (k : ℕ) where
     pub mappings-length : length r ≡ length r₀
     mappings-length = ap length (l .holds) ∙ length-sets (sets r₀ k issuers) (k + count) subjects ∙ length-sets r₀ k issuers
 
-    pub mappings-done : count ≤ i → Reads (read-mappings s count [] at) sides r₀ k r Numbers.valid
+    pub mappings-done : count ≤ i → Reads number-of (read-mappings s count [] at) sides r₀ k r Numbers.valid
     mappings-done h =
         let none : count - i ≡ 0 = omega arith in
         let all : count ≡ length issuers = omega (arith, l .passed, l .within, length-map (l .so-far) (λ m. m .issuer)) in
@@ -173,14 +173,14 @@ module _ (s : List ℕ) (count at : ℕ) (r₀ : List ℕ) (k : ℕ) where
           let more : count - i ≡ suc (count - (i + 1)) = omega arith in
           l .rest ∙ ap (λ m. read-mappings s m (l .so-far) next) more ∙ mappings-more s (count - (i + 1)) (l .so-far) next
 
-      issuer-stop : (n : ℕ) → read-field s 16 policy-fault next ≡ refused n → Reads (read-mappings s count [] at) sides r₀ k r n
+      issuer-stop : (n : ℕ) → read-field s 16 policy-fault next ≡ refused n → Reads number-of (read-mappings s count [] at) sides r₀ k r n
       issuer-stop n e = reads-refused sides r₀ k r (mappings-here ∙ then-refused (after-issuer s left (l .so-far)) e)
 
-      pub issuer-short : 8 * length s < next + 16 → Reads (read-mappings s count [] at) sides r₀ k r Numbers.sheet-ends
+      pub issuer-short : 8 * length s < next + 16 → Reads number-of (read-mappings s count [] at) sides r₀ k r Numbers.sheet-ends
       issuer-short g = issuer-stop _ (field-ends s next 16 policy-fault g)
 
       module _ (D : ℕ) (g : next + 16 ≤ 8 * length s) (e : D ≡ field s next 16) where
-        pub issuer-zero : D ≡ 0 → Reads (read-mappings s count [] at) sides r₀ k r Numbers.policy-zero
+        pub issuer-zero : D ≡ 0 → Reads number-of (read-mappings s count [] at) sides r₀ k r Numbers.policy-zero
         issuer-zero z = issuer-stop _ (field-refused s 16 policy-fault next D g e _ (pair-zero D z) (omega arith))
 
         module _ (z : D ≡ 0 → ⊥) where
@@ -190,14 +190,14 @@ module _ (s : List ℕ) (count at : ℕ) (r₀ : List ℕ) (k : ℕ) where
           subject-here : read-mappings s count [] at ≡ (read-field s 16 policy-fault (next + 16) then after-subject)
           subject-here = mappings-here ∙ then-read (after-issuer s left (l .so-far)) (field-read s 16 policy-fault next D g e (pair-none D z))
 
-          subject-stop : (n : ℕ) → read-field s 16 policy-fault (next + 16) ≡ refused n → Reads (read-mappings s count [] at) sides r₀ k r n
+          subject-stop : (n : ℕ) → read-field s 16 policy-fault (next + 16) ≡ refused n → Reads number-of (read-mappings s count [] at) sides r₀ k r n
           subject-stop n e = reads-refused sides r₀ k r (subject-here ∙ then-refused after-subject e)
 
-          pub subject-short : 8 * length s < next + 32 → Reads (read-mappings s count [] at) sides r₀ k r Numbers.sheet-ends
+          pub subject-short : 8 * length s < next + 32 → Reads number-of (read-mappings s count [] at) sides r₀ k r Numbers.sheet-ends
           subject-short b = subject-stop _ (field-ends s (next + 16) 16 policy-fault (omega arith))
 
           module _ (S : ℕ) (b : next + 32 ≤ 8 * length s) (f : S ≡ field s (next + 16) 16) where
-            pub subject-zero : S ≡ 0 → Reads (read-mappings s count [] at) sides r₀ k r Numbers.policy-zero
+            pub subject-zero : S ≡ 0 → Reads number-of (read-mappings s count [] at) sides r₀ k r Numbers.policy-zero
             subject-zero y = subject-stop _ (field-refused s 16 policy-fault (next + 16) S (omega arith) f _ (pair-zero S y) (omega arith))
 
             pub mappings-next : (S ≡ 0 → ⊥) → MappingsSoFar s count at r₀ k (set (set r (k + i) D) (k + count + i) S) (next + 32) (i + 1)

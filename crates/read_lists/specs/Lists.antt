@@ -1,4 +1,4 @@
--- What reading a list of the sheet into a record gives.
+-- What reading a part of the sheet into a record gives, and the parts that are lists.
 use Prim.Native.Nat.{ℕ}
 use mathlib.Core.Bool.{Bool, true, false}
 use mathlib.Core.List.{List, _++_, map}
@@ -24,7 +24,7 @@ abbrev pub number-of : {A : Type 0} → Read A → ℕ
 number-of (refused k) = k
 number-of (read a at) = Numbers.valid
 
--- r is the number of the reading x; where it gives a value, t is s with the value's numbers from place k on
-pub record Reads {A : Type 0} (x : Read A) (numbers : A → List ℕ) (s : List ℕ) (k : ℕ) (t : List ℕ) (r : ℕ) : Type 0 where
-  pub number : r ≡ number-of x
+-- r is what holds the reading x in the code's own type; where x gives a value, t is s with the value's numbers from place k on
+pub record Reads {A R : Type 0} (held : Read A → R) (x : Read A) (numbers : A → List ℕ) (s : List ℕ) (k : ℕ) (t : List ℕ) (r : R) : Type 0 where
+  pub said : r ≡ held x
   pub places : (a : A) (at : ℕ) → x ≡ read a at → t ≡ sets s k (numbers a)

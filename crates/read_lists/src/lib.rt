@@ -6,7 +6,7 @@ ghost use lib.ListN.{length, take};
 ghost use Rattle.rules.specs.Sets.{_∈_};
 ghost use Rattle.rules.specs.Sheet.{read-policies, read-mappings};
 ghost use Rattle.read_fields.specs.Fields.{BitsOf};
-ghost use Rattle.read_lists.specs.Lists.{list-fault, sides, Reads};
+ghost use Rattle.read_lists.specs.Lists.{list-fault, sides, number-of, Reads};
 use bitfield::read_word;
 use rules::POLICY_REPEATS;
 use rules::POLICY_ZERO;
@@ -45,7 +45,7 @@ pub fn read_policies(
     requires { ⌜ BitsOf (now s) bits ⌝ }
     requires { ⌜ (at < 2 ^ 30) × (count < 2 ^ 16) ⌝ }
     requires { ⌜ place + count ≤ length (now rec) ⌝ }
-    ensures { λ r. ⌜ Reads (read-policies (now (s .entry)) (list-fault distinct) count [] at) (λ ps. ps) (now (rec .entry)) place (now (rec .exit)) r ⌝ }
+    ensures { λ r. ⌜ Reads number-of (read-policies (now (s .entry)) (list-fault distinct) count [] at) (λ ps. ps) (now (rec .entry)) place (now (rec .exit)) r ⌝ }
 {
     let mut next = at;
     let mut i = 0;
@@ -82,7 +82,7 @@ pub fn read_mappings(
     requires { ⌜ BitsOf (now s) bits ⌝ }
     requires { ⌜ (at < 2 ^ 30) × (count < 2 ^ 16) ⌝ }
     requires { ⌜ place + count + count ≤ length (now rec) ⌝ }
-    ensures { λ r. ⌜ Reads (read-mappings (now (s .entry)) count [] at) sides (now (rec .entry)) place (now (rec .exit)) r ⌝ }
+    ensures { λ r. ⌜ Reads number-of (read-mappings (now (s .entry)) count [] at) sides (now (rec .entry)) place (now (rec .exit)) r ⌝ }
 {
     let second = place + count;
     let mut next = at;

@@ -23,7 +23,8 @@ use Rattle.record.specs.Within.{FewInCertificate, Few, WithinCertificate, Holds
 use Rattle.record.proofs.Put.{starts}
 use Rattle.record.proofs.Few.{few-most}
 use Rattle.read_certificate.specs.declared.Next.{Next}
-use Rattle.read_certificate.specs.Certificate.{Reads, as-next}
+use Rattle.read_lists.specs.Lists.{Reads}
+use Rattle.read_certificate.specs.Certificate.{as-next}
 use Rattle.read_certificate.proofs.Reach.{Reach, stopped, reached, reach-then, field-then, flag-reach, policies-reach, certificates-reach, certificate-span}
 use Rattle.read_certificate.proofs.Answers.{nexts, was-read}
 use Rattle.read_lists.proofs.Readings.{then-refused, then-read}
