@@ -1,4 +1,4 @@
--- The judge on sheets and on records for C and Rust: what is exported, in the one form that both have.
+-- The judge on sheets for C and Rust: what is exported, in the form that records have too.
 use mathlib.Core.List.{List}
 use mathlib.Core.Path.{_≡_, refl}
 use Prim.Native.Nat.{ℕ}
@@ -6,13 +6,8 @@ use Rattle.rules.specs.Graph as Graph
 use Rattle.rules.specs.Sheet.{read-sheet}
 use Rattle.rules.specs.Judge.{after-reading}
 use Rattle.rules.specs.Face.{sheet-exported}
-use Rattle.given.specs.Face.{after-faults, record-exported}
 use Rattle.demands.proofs.Exported.{export}
 
 pub sheet-export : (s A U C : List ℕ) → export A U C (after-reading Graph.judged (read-sheet s) A U) ≡ sheet-exported s A U C
 unfolding export sheet-exported
 sheet-export s A U C = refl
-
-pub record-export : (r A U C : List ℕ) → export A U C (after-faults Graph.judged r A U) ≡ record-exported r A U C
-unfolding export record-exported
-record-export r A U C = refl

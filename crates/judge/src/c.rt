@@ -4,7 +4,6 @@ ghost use Rattle.rules.specs.Face.{Judged, sheet-exported, Rewritten, sheet-rew
 ghost use Rattle.given.specs.Face.{record-exported, record-written, write-exported, Recorded, sheet-recorded};
 use crate::judge_sheet;
 use record::RECORD;
-use records::judge_record;
 use rules::DEPTHS;
 use rules::SHEET_BYTES;
 use rules::TABLE;
@@ -66,19 +65,7 @@ pub extern "C" fn skandrulo_judge_record(
 ) -> u32
     ensures { λ r. ⌜ _≡_ {A = Judged} (record { result = r; authority = now (authority .exit); user = now (user .exit); counts = now (counts .exit) }) (record-exported (now (given .entry)) (now (authority .entry)) (now (user .entry)) (now (counts .entry))) ⌝ }
 {
-    if authority.len() < TABLE {
-        return SHORT;
-    }
-    if user.len() < TABLE {
-        return SHORT;
-    }
-    if counts.len() < DEPTHS {
-        return SHORT;
-    }
-    let answer = judge_record(given, authority, user);
-    let found = answer.counts;
-    sets::copy(counts, 0, &found);
-    (answer.number as u32) + 256 * (answer.place as u32)
+    records::judge_exported(given, authority, user, counts)
 }
 
 // The sheet of a record's path, first in the buffer: the refusal, or 256 times the sheet's length.

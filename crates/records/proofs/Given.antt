@@ -18,11 +18,12 @@ use Rattle.record.specs.Record.{head-places, certificate-head-places}
 use Rattle.record.specs.Unpacked.{unpacked-certificate, after-certificate, unpacked}
 use Rattle.given.specs.Given.{path-given}
 use Rattle.given.specs.Faults.{short-fault, certificate-record-fault, certificates-record-fault, record-fault}
-use Rattle.given.specs.Face.{after-faults, record-judged}
+use Rattle.given.specs.Face.{after-faults, record-judged, record-exported}
 use Rattle.accept.proofs.Given.{given-well-formed}
 use Rattle.demands.proofs.Numbered.{pick-most, n-most, count-most, user-most, listed-most, or-most, policies-fault-most, mappings-fault-most, fault-most, short-most}
 use Rattle.demands.proofs.Promise.{outcome-number, outcome-counts, Settled, well-formed-settled, unless-short-all, bounded-refusal, fault-tree, fault-bounded}
 use Rattle.demands.proofs.Outcomes as outcomes
+use Rattle.demands.proofs.Exported.{export}
 
 -- a record's refusal is at most 5
 
@@ -122,3 +123,8 @@ module _ (r A U : List ℕ) where
     unfolding unless-fault
     sound q x A′ U′ e f d =
         d ∙ ap (λ p. verdict (Graph.judged p) A U) f ∙ sym (judged-long ∙ ap (λ k. unless-fault k (Graph.judged (path-given r)) A U) e)
+
+-- what is exported, in the form that sheets have too
+pub record-export : (r A U C : List ℕ) → export A U C (after-faults Graph.judged r A U) ≡ record-exported r A U C
+unfolding export record-exported
+record-export r A U C = refl

@@ -8,10 +8,10 @@ use Rattle.record.specs.Record.{packed, most-places}
 use Rattle.record.proofs.Few.{few-most}
 use Rattle.read_certificate.proofs.Answers.{nexts, was-refused}
 use Rattle.reader.proofs.Sheet.{SheetWas, sheet-was, writable-few}
-use Rattle.records.proofs.Codec.{read-short, read-refused, reads}
+use Rattle.records.proofs.Sheets.{read-short, read-refused, reads}
 use borrow.Author.Needs.{needs}
-use Rattle.records.proofs.read_record.Statement.{statement}
-use Rattle.records.proofs.read_record.Tie as tie
+use Rattle.records.proofs.codec.read_record.Statement.{statement}
+use Rattle.records.proofs.codec.read_record.Tie as tie
 
 -- the sheet that was read, and the places of its record
 was : (c : tie.Else2) → SheetWas (c .before .before .before .before .before .before .before .before .args .sheet .now) (replicate most-places 0) (c .before .before .before .read-record .last .1 .0) (c .before .before .before .read-record .result)

@@ -10,10 +10,10 @@ use Rattle.given.specs.Faults.{record-fault}
 use Rattle.graph.specs.Sound.{Sound}
 use Rattle.graph.proofs.Fits as fits
 use Rattle.accept.proofs.Given.{given-few, given-well-formed}
-use Rattle.records.proofs.Codec.{write-short, write-refused, writes}
+use Rattle.records.proofs.Sheets.{write-short, write-refused, writes}
 use borrow.Author.Needs.{needs}
-use Rattle.records.proofs.write_record.Statement.{statement}
-use Rattle.records.proofs.write_record.Tie as tie
+use Rattle.records.proofs.codec.write_record.Statement.{statement}
+use Rattle.records.proofs.codec.write_record.Tie as tie
 
 abbrev start : tie.Else2 → tie.Start
 start c = c .before .before .before .before .before

@@ -1,14 +1,13 @@
--- `skandrulo_judge_record` gives the outcome of the judge on records as a number and three slices (demands/proofs/Exported).
+-- `records::judge_exported` gives the outcome of the judge on records as a number and three slices (demands/proofs/Exported).
 use native.Mathlib.Omega.{arith}
 use mathlib.Core.Path.{_≡_, _∙_}
 use lib.ListN.{length}
 use Rattle.rules.specs.Limits as Limits
 use Rattle.demands.proofs.Exported.{short-authority, short-user, short-counts, exports}
-use Rattle.records.proofs.Given.{after-long}
-use Rattle.judge.proofs.Exported.{record-export}
+use Rattle.records.proofs.Given.{after-long, record-export}
 use borrow.Author.Needs.{needs}
-use Rattle.judge.proofs.c.skandrulo_judge_record.Statement.{statement}
-use Rattle.judge.proofs.c.skandrulo_judge_record.Tie as tie
+use Rattle.records.proofs.export.judge_exported.Statement.{statement}
+use Rattle.records.proofs.export.judge_exported.Tie as tie
 
 returns : tie.Need-returns
 returns c = short-authority _ _ _ _ (c .if1 .taken) ∙ record-export _ _ _ _
@@ -57,8 +56,8 @@ returns-4 c =
     let u = k .before .if2 .left in
     exports _ _ _ _ _ _ _ _ (j .ensures .1 .0 ∙ after-long _ _ _ a u) (search needs) (c .before .before .before .before .copy .ensures .1) a u (k .if3 .left) ∙ record-export _ _ _ _
 
-pub skandrulo-judge-record-spec : {M : Type 1} → statement M
-skandrulo-judge-record-spec =
+pub judge-exported-spec : {M : Type 1} → statement M
+judge-exported-spec =
     tie.close
     (tie.spec
     returns

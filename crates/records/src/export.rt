@@ -1,0 +1,35 @@
+// The judge on records for C and Rust: numbers and slices alone.
+ghost use mathlib.Core.Path.{_≡_};
+ghost use Rattle.rules.specs.Face.{Judged};
+ghost use Rattle.given.specs.Face.{record-exported};
+use crate::judge_record;
+use rules::DEPTHS;
+use rules::TABLE;
+
+// "a lent table is too short"
+const SHORT: u32 = rules::TABLE_SHORT as u32;
+
+// The judge on a record handed over: the number and 256 times the place. The counts go to the first eleven places of `counts`.
+// 7 where a table has fewer than 304 places or `counts` fewer than eleven: then nothing is written.
+pub fn judge_exported(
+    given: &[u16],
+    authority: &mut [u16],
+    user: &mut [u16],
+    counts: &mut [u16],
+) -> u32
+    ensures { λ r. ⌜ _≡_ {A = Judged} (record { result = r; authority = now (authority .exit); user = now (user .exit); counts = now (counts .exit) }) (record-exported (now (given .entry)) (now (authority .entry)) (now (user .entry)) (now (counts .entry))) ⌝ }
+{
+    if authority.len() < TABLE {
+        return SHORT;
+    }
+    if user.len() < TABLE {
+        return SHORT;
+    }
+    if counts.len() < DEPTHS {
+        return SHORT;
+    }
+    let answer = judge_record(given, authority, user);
+    let found = answer.counts;
+    sets::copy(counts, 0, &found);
+    (answer.number as u32) + 256 * (answer.place as u32)
+}
