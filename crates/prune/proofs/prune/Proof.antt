@@ -79,8 +79,12 @@ Climbs c i =
 climbing : (c : tie.In-loop Inv-loop μ-loop) → Climbs (c .before) (suc (c .before .loop .i - 1))
 climbing c = subst (Climbs (c .before)) (omega (arith, c .loop-test .taken)) (c .before .loop .inv)
 
+-- at the loop's end
+none-left : (i : ℕ) → i ≤ 0 → i ≡ 0
+none-left i h = omega arith
+
 climbed : (c : tie.After-loop Inv-loop μ-loop) → Climbs (c .before) 0
-climbed c = subst (Climbs (c .before)) (omega (arith, c .loop-test .left)) (c .before .loop .inv)
+climbed c = subst (Climbs (c .before)) (none-left _ (c .loop-test .left)) (c .before .loop .inv)
 
 -- the row in hand starts where the one above ends
 seam : (c : tie.In-loop Inv-loop μ-loop)
