@@ -10,11 +10,15 @@
 #include <stddef.h>
 #include <stdint.h>
 
-/* The places that a lent table needs, the depth counts, the bytes that the writer's buffer needs, and the places of the longest record. */
+/* The places that a lent table needs, the depth counts, the bytes that the writer's buffer needs, the places of the longest record and
+ * of the longest certificate in one, and the bytes of a register.
+ */
 #define SKANDRULO_TABLE 304
 #define SKANDRULO_DEPTHS 11
 #define SKANDRULO_SHEET_BYTES 1044
 #define SKANDRULO_RECORD 561
+#define SKANDRULO_CERTIFICATE 54
+#define SKANDRULO_REGISTER 17922
 
 /* Judges a sheet. Returns the number of document 01's table plus 256 times the place.
  *
@@ -97,5 +101,41 @@ uint32_t skandrulo_write_record(const uint16_t *record, size_t record_len, uint8
  * it holds the path's record first, with flags of 0 and 1, and is as it was beyond it.
  */
 uint32_t skandrulo_read_record(const uint8_t *sheet, size_t sheet_len, uint16_t *record, size_t record_len);
+
+/* A register: the policy identifiers that have a number, the content octets of each. SKANDRULO_REGISTER bytes, all of them 0 when it is empty.
+ *
+ *     bytes 0 and 1                   the number of entries, 0 to 512, the high byte first
+ *     bytes 2 + 2 i and 3 + 2 i       the position of the entry that is the i-th in ascending order, the high byte first
+ *     byte 1026 + 33 k                the length of the entry at position k, 1 to 32
+ *     bytes 1027 + 33 k and after     its octets
+ *
+ * The entry at position k has policy number k + 2. anyPolicy, 55 1D 20 00 hex, is always 1 and is no entry. Each entry is valid content of a DER
+ * identifier, and no two are alike: in ascending order, octet by octet, each is above the one before it. Bytes beyond the entries and beyond an
+ * entry's length never matter.
+ */
+enum {
+    SKANDRULO_REGISTER_COUNT = 0,
+    SKANDRULO_REGISTER_ORDER = 2,
+    SKANDRULO_REGISTER_ENTRIES = 1026,
+    SKANDRULO_REGISTER_ENTRY = 33
+};
+
+/* Reads a certificate's extensions: the values of certificatePolicies, policyMappings, policyConstraints and inhibitAnyPolicy, that is the content of
+ * each extnValue. A value of length 0 says that the extension is absent. `self_issued` is set where it is not 0.
+ * Returns the refusal, or 256 times the number of places that the certificate takes.
+ *
+ * 7, where `reg` has fewer than SKANDRULO_REGISTER bytes or `certificate` fewer than SKANDRULO_CERTIFICATE places, comes first: nothing is written.
+ * 20, where the register is not as said above, comes next. Then the values are read in the order named, each from its first octet to its last, and the
+ * first fault is given: 13 for anything but DER of the extension's type, a negative skip value included; 3 for an empty list of policies or pairs,
+ * and beyond the sixteenth; 15 for an identifier of more than 32 octets; 14 where a new identifier is needed and 512 stand; 5 where a policy repeats.
+ * Of one identifier 13 comes first, then 3, 15, 14, 5. Qualifiers are checked and dropped. A skip value above 255 is 255.
+ *
+ * After 3, 5, 13, 14, 15 and 20 the register is as it was and the first SKANDRULO_CERTIFICATE places of `certificate` are 0. After 0 they hold the
+ * certificate as it stands in a record, and zeros after it, and each identifier that is new has the next number: its entry is written, its position
+ * inserted in the order, and the number of entries raised; the other bytes of the register are as they were.
+ */
+uint32_t skandrulo_read_extensions(const uint8_t *policies, size_t policies_len, const uint8_t *mappings, size_t mappings_len,
+                                   const uint8_t *constraints, size_t constraints_len, const uint8_t *inhibit_any, size_t inhibit_any_len,
+                                   uint8_t self_issued, uint8_t *reg, size_t reg_len, uint16_t *certificate, size_t certificate_len);
 
 #endif

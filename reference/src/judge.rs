@@ -1,5 +1,7 @@
 //! The proved judge, called through its C functions.
 
+use crate::extensions::Extensions;
+
 extern "C" {
     fn skandrulo_judge_sheet(
         sheet: *const u8,
@@ -43,6 +45,22 @@ extern "C" {
         record: *mut u16,
         record_len: usize,
     ) -> u32;
+
+    fn skandrulo_read_extensions(
+        policies: *const u8,
+        policies_len: usize,
+        mappings: *const u8,
+        mappings_len: usize,
+        constraints: *const u8,
+        constraints_len: usize,
+        inhibit_any: *const u8,
+        inhibit_any_len: usize,
+        self_issued: u8,
+        reg: *mut u8,
+        reg_len: usize,
+        certificate: *mut u16,
+        certificate_len: usize,
+    ) -> u32;
 }
 
 /// The number and place that the proved judge returned.
@@ -53,7 +71,7 @@ pub struct Judged {
 }
 
 /// The number that the proved reader or writer returned, and the length of
-/// what it wrote: a sheet's bytes, or a record's places.
+/// what it wrote: a sheet's bytes, or the places of a record or a certificate.
 #[derive(Clone, Copy, Debug, PartialEq, Eq)]
 pub struct Written {
     pub number: u8,
@@ -108,6 +126,39 @@ pub fn write_record(record: &[u16], buffer: &mut [u8]) -> Written {
 /// Reads a sheet and puts the record of its path into `record`.
 pub fn read_record(sheet: &[u8], record: &mut [u16]) -> Written {
     write(skandrulo_read_record, sheet, record)
+}
+
+/// Reads a certificate's extensions. The certificate stands in the first places
+/// of `certificate`, which needs `extensions::PLACES`; the register, which needs
+/// `register::BYTES`, gains what is new.
+pub fn read_extensions(
+    extensions: Extensions,
+    register: &mut [u8],
+    certificate: &mut [u16],
+) -> Written {
+    let Extensions { policies, mappings, constraints, inhibit_any, self_issued } = extensions;
+    // SAFETY: each pointer is passed with the length of the slice it comes
+    // from, the slices that are written overlap no other, and the function
+    // keeps none of them.
+    let packed = unsafe {
+        skandrulo_read_extensions(
+            policies.as_ptr(),
+            policies.len(),
+            mappings.as_ptr(),
+            mappings.len(),
+            constraints.as_ptr(),
+            constraints.len(),
+            inhibit_any.as_ptr(),
+            inhibit_any.len(),
+            self_issued,
+            register.as_mut_ptr(),
+            register.len(),
+            certificate.as_mut_ptr(),
+            certificate.len(),
+        )
+    };
+    let (number, length) = unpack(packed);
+    Written { number, length }
 }
 
 /// Calls a function of the library that judges.

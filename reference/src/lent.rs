@@ -1,5 +1,7 @@
 //! Tables and buffers to lend, with old values in them and guards around.
 
+use std::ops::Range;
+
 use crate::random::Random;
 
 /// The guard places on each side.
@@ -9,32 +11,49 @@ const GUARD: usize = 8;
 pub struct Lent<T> {
     cells: Vec<T>,
     before: Vec<T>,
+    range: Range<usize>,
 }
 
 impl<T: Copy + PartialEq> Lent<T> {
     /// A slice of `length` places, it and its guards filled by `draw`.
     pub fn new(length: usize, random: &mut Random, draw: fn(&mut Random) -> T) -> Lent<T> {
         let cells: Vec<T> = (0..length + 2 * GUARD).map(|_| draw(random)).collect();
-        Lent { before: cells.clone(), cells }
+        Lent { before: cells.clone(), cells, range: GUARD..GUARD + length }
+    }
+
+    /// The first `length` places of `buffer`, with guards around the buffer.
+    pub fn part(
+        buffer: &[T],
+        length: usize,
+        random: &mut Random,
+        draw: fn(&mut Random) -> T,
+    ) -> Lent<T> {
+        let guard = [(); GUARD].map(|()| draw(random));
+        let cells = [&guard, buffer, &guard].concat();
+        Lent { before: cells.clone(), cells, range: GUARD..GUARD + length }
     }
 
     /// The slice that is lent.
     pub fn slice(&mut self) -> &mut [T] {
-        let end = self.cells.len() - GUARD;
-        &mut self.cells[GUARD..end]
+        &mut self.cells[self.range.clone()]
     }
 
     /// The old values of the slice.
     pub fn old(&self) -> Vec<T> {
-        self.before[GUARD..self.before.len() - GUARD].to_vec()
+        self.before[self.range.clone()].to_vec()
     }
 
     /// Whether the slice holds exactly `expected` and the guards are as they
     /// were.
     pub fn holds(&self, expected: &[T]) -> bool {
-        let end = self.cells.len() - GUARD;
-        self.cells[..GUARD] == self.before[..GUARD]
-            && self.cells[GUARD..end] == *expected
+        let Range { start, end } = self.range;
+        self.cells[..start] == self.before[..start]
+            && self.cells[start..end] == *expected
             && self.cells[end..] == self.before[end..]
+    }
+
+    /// Whether the slice and the guards are as they were.
+    pub fn is_unchanged(&self) -> bool {
+        self.cells == self.before
     }
 }

@@ -1,22 +1,32 @@
 //! An independent second judge of certificate policy paths, written from
-//! document 01 and RFC 9618 alone.
+//! document 01 and RFC 9618 alone, and a reader of certificates' extensions,
+//! written from document 02, RFC 5280, X.690 and include/judge.h.
 
 pub mod answer;
 #[cfg(feature = "library")]
 pub mod beside;
 pub mod counters;
 pub mod decoded;
+pub mod der;
+pub mod draft;
 pub mod everyday;
+pub mod extension_faults;
+pub mod extensions;
 pub mod graph;
 pub mod harm;
 #[cfg(feature = "library")]
 pub mod judge;
 pub mod known;
+pub mod known_extensions;
 pub mod lent;
 pub mod path;
 pub mod random;
+pub mod random_extensions;
 pub mod random_record;
 pub mod record;
+pub mod register;
 pub mod sheet;
 pub mod stack;
+pub mod tlv;
 pub mod tree;
+pub mod x509;

@@ -29,7 +29,7 @@ pub fn n_fault(n: usize) -> u8
 }
 
 // Whether `policy` is among the first `before` values.
-fn seen(values: &[u16], before: usize, policy: u16) -> bool
+pub fn seen(values: &[u16], before: usize, policy: u16) -> bool
     requires { ⌜ before ≤ length (now values) ⌝ }
     ensures { λ r. ⌜ r ≡ policy ∈ take before (now (values .entry)) ⌝ }
 {

@@ -1,6 +1,9 @@
-// The judge and the sheet's codec for C and Rust: numbers and slices alone.
+// The judge, the sheet's codec and the extensions' reader for C and Rust: numbers and slices alone.
+ghost use mathlib.Core.Bool.{not};
 ghost use mathlib.Core.Path.{_≡_};
+ghost use lib.Dec.{eqb};
 ghost use Rattle.rules.specs.Face.{Judged, sheet-exported, Rewritten, sheet-rewritten};
+ghost use Rattle.extension_rules.specs.Face.{Lent, extensions-read};
 ghost use Rattle.given.specs.Face.{record-exported, record-written, write-exported, Recorded, sheet-recorded};
 use crate::judge_sheet;
 use record::RECORD;
@@ -84,4 +87,29 @@ pub extern "C" fn skandrulo_read_record(sheet: &[u8], lent: &mut [u16]) -> u32
     ensures { λ r. ⌜ _≡_ {A = Recorded} (record { result = r; places = now (lent .exit) }) (sheet-recorded (now (sheet .entry)) (now (lent .entry))) ⌝ }
 {
     records::read_record(sheet, lent)
+}
+
+// A certificate's extensions to the certificate as it stands in a record, and zeros after it: the refusal, or 256 times the places that it takes.
+// 7 where the register or the lent certificate is too short: then nothing is written.
+#[no_mangle]
+pub extern "C" fn skandrulo_read_extensions(
+    policies: &[u8],
+    mappings: &[u8],
+    constraints: &[u8],
+    inhibit: &[u8],
+    own: u8,
+    reg: &mut [u8],
+    certificate: &mut [u16],
+) -> u32
+    ensures { λ r. ⌜ _≡_ {A = Lent} (record { result = r; register = now (reg .exit); certificate = now (certificate .exit) }) (extensions-read (now (policies .entry)) (now (mappings .entry)) (now (constraints .entry)) (now (inhibit .entry)) (not (eqb own 0)) (now (reg .entry)) (now (certificate .entry))) ⌝ }
+{
+    extensions::read_extensions(
+        policies,
+        mappings,
+        constraints,
+        inhibit,
+        own != 0,
+        reg,
+        certificate,
+    )
 }

@@ -13,6 +13,7 @@ ghost use Rattle.rules.specs.Judge.{outcome, sheet-judged, path-judged, Bounded
 ghost use Rattle.rules.specs.Face.{refused-answer};
 pub use c::skandrulo_judge_record;
 pub use c::skandrulo_judge_sheet;
+pub use c::skandrulo_read_extensions;
 pub use c::skandrulo_read_record;
 pub use c::skandrulo_rewrite_sheet;
 pub use c::skandrulo_write_record;

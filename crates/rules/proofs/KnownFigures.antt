@@ -1,4 +1,4 @@
--- Document 01's limits and numbers as figures: one table, and one claim that covers every row, by computation.
+-- Document 01's limits and numbers, and the numbers that document 02 adds, as figures: one table, and one claim that covers every row, by computation.
 use Prim.Native.Nat.{ℕ}
 use mathlib.Core.List.{List, [], _∷_, map}
 use mathlib.Core.Path.{_≡_, refl}
@@ -40,6 +40,11 @@ rows =
     ∷ (Numbers.no-graph is 8)
     ∷ (Numbers.any-mapped is 9)
     ∷ (Numbers.user-empty is 10)
+    -- "Numbers added here or later join document 01's table"
+    ∷ (Numbers.not-der is 13)
+    ∷ (Numbers.register-full is 14)
+    ∷ (Numbers.identifier-long is 15)
+    ∷ (Numbers.register-bad is 20)
     -- "1 is anyPolicy"
     ∷ (any is 1)
     ∷ []

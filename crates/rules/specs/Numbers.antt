@@ -1,4 +1,4 @@
--- The numbers of document 01's table, "What the judge says". 1 to 7 are refusals, the others verdicts.
+-- The numbers of document 01's table, "What the judge says", and those that document 02 adds to it. 1 to 7 and 13 upward are refusals, the others verdicts.
 use Prim.Native.Nat.{ℕ}
 
 -- path valid for policy
@@ -44,3 +44,19 @@ any-mapped = 9
 -- at the end, explicit_policy is 0 and the user set is empty
 abbrev pub user-empty : ℕ
 user-empty = 10
+
+-- anything but DER of the stated type
+abbrev pub not-der : ℕ
+not-der = 13
+
+-- a new identifier is needed and 512 stand
+abbrev pub register-full : ℕ
+register-full = 14
+
+-- an identifier above 32 octets
+abbrev pub identifier-long : ℕ
+identifier-long = 15
+
+-- the register is not one
+abbrev pub register-bad : ℕ
+register-bad = 20

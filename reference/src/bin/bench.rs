@@ -1,5 +1,5 @@
-//! The speed of the proved judge, reader and writer beside the plain graph
-//! judge and codec of this package, as Markdown.
+//! The speed of the proved judge, readers and writer beside the plain graph
+//! judge, codec and reader of extensions of this package, as Markdown.
 //!
 //! Argument: the seed of the sheets (1).
 
@@ -10,12 +10,15 @@ use std::time::Instant;
 
 use reference::answer::{DEPTHS, PLACES};
 use reference::beside::{Judges, JUDGE_RECORD, JUDGE_SHEET};
+use reference::draft::{Draft, Identifier};
 use reference::everyday::{self, Everyday};
+use reference::extensions;
 use reference::harm::HARMS;
 use reference::judge::{self, Writing, Written};
 use reference::path::Path;
 use reference::random::{self, Full, Random, FULL_KINDS};
-use reference::{record, sheet, tree};
+use reference::random_extensions::{self, Input};
+use reference::{record, register, sheet, tree};
 
 /// The sheets of one kind and length.
 const SHEETS: usize = 4;
@@ -83,14 +86,21 @@ fn judging<I>(judges: &Judges<I>, input: &[I], n: usize, verdict: Verdict) -> Ti
 
 /// Times both judges on sheets with one verdict: the mean over the sheets.
 fn measure(paths: &[Path], verdict: Verdict) -> Times {
-    let mut sum = Times::default();
-    for path in paths {
-        let times = judging(&JUDGE_SHEET, &sheet::write(path), path.certificates.len(), verdict);
-        sum.plain += times.plain;
-        sum.proved += times.proved;
-    }
-    let sheets = paths.len() as f64;
-    Times { plain: sum.plain / sheets, proved: sum.proved / sheets }
+    mean(
+        paths.iter().map(|path| {
+            judging(&JUDGE_SHEET, &sheet::write(path), path.certificates.len(), verdict)
+        }),
+    )
+}
+
+/// The mean of times.
+fn mean(times: impl ExactSizeIterator<Item = Times>) -> Times {
+    let count = times.len() as f64;
+    let sum = times.fold(Times::default(), |sum, times| Times {
+        plain: sum.plain + times.plain,
+        proved: sum.proved + times.proved,
+    });
+    Times { plain: sum.plain / count, proved: sum.proved / count }
 }
 
 /// Times two functions that write a sheet or a record: the plain one returns
@@ -124,6 +134,65 @@ fn writing_alone(path: &Path) -> Times {
 fn rewriting(path: &Path) -> Times {
     let plain = |sheet: &[u8]| sheet::write(&sheet::read(sheet).expect("a sheet"));
     writing(&sheet::write(path), sheet::LONGEST, plain, judge::rewrite_sheet)
+}
+
+/// The slices lent to one reader of extensions.
+#[derive(PartialEq)]
+struct Lent {
+    register: Vec<u8>,
+    certificate: [u16; extensions::PLACES],
+}
+
+impl Lent {
+    fn new(register: &[u8]) -> Lent {
+        Lent { register: register.to_vec(), certificate: [0; extensions::PLACES] }
+    }
+
+    /// Takes the entries back that were added to a register: its count and its
+    /// order are as they were.
+    fn put_back(&mut self, register: &[u8]) {
+        let end = register::entry_start(0);
+        self.register[..end].copy_from_slice(&register[..end]);
+    }
+
+    /// The plain reader reads once.
+    fn plain(&mut self, input: &Input) -> Written {
+        let values = black_box(input.extensions());
+        let (number, length) =
+            extensions::read_into(values, &mut self.register, &mut self.certificate);
+        black_box(&*self);
+        Written { number, length }
+    }
+
+    /// The proved reader reads once.
+    fn proved(&mut self, input: &Input) -> Written {
+        let values = black_box(input.extensions());
+        let written = judge::read_extensions(values, &mut self.register, &mut self.certificate);
+        black_box(&*self);
+        written
+    }
+}
+
+/// Times both readers on extensions that are read. Both leave the same.
+fn reading_extensions(input: &Input) -> Times {
+    let old = &input.register;
+    let (mut plain, mut proved) = (Lent::new(old), Lent::new(old));
+    assert_eq!(plain.plain(input).number, 0);
+    assert_eq!(proved.proved(input).number, 0);
+    assert!(proved == plain);
+    if plain.register == *old {
+        return in_turn(|| plain.plain(input), || proved.proved(input));
+    }
+    in_turn(
+        || {
+            plain.put_back(old);
+            plain.plain(input)
+        },
+        || {
+            proved.put_back(old);
+            proved.proved(input)
+        },
+    )
 }
 
 /// Times both functions, batch by batch in turn: the median of each.
@@ -311,6 +380,40 @@ fn print_records(paths: &[Named]) {
     }
 }
 
+/// Everyday extensions, with a register of so many entries after the call, to
+/// which their two identifiers belong already or are added.
+fn everyday_extensions(random: &mut Random, entries: usize, new: bool) -> Input {
+    let mut identifiers = random_extensions::enterprise_identifiers(random, entries);
+    let policies: [Identifier; 2] =
+        [entries - 2, entries - 1].map(|place| identifiers[place].clone());
+    if new {
+        identifiers.truncate(entries - 2);
+    }
+    random.shuffle(&mut identifiers);
+    let draft = Draft::everyday(&policies[0], &policies[1]);
+    Input::new(draft.encode(), 0, &register::of(&identifiers)[..])
+}
+
+/// The table of reading extensions.
+fn print_extensions(random: &mut Random) {
+    println!("\nReading the extensions of a certificate with two policies, one pair and both");
+    println!("constraints, answered 0. The registers hold identifiers 1.3.6.1.4.1.x.y, {SHEETS} drawn of");
+    println!("each size, and are looked through at every call. The certificate's identifiers are");
+    println!(
+        "entries, or they are new: then the old count and order, 1,026 bytes, are copied back"
+    );
+    println!("before each call, within both times. The ratio should be at most 1.5:\n");
+    print_head(&["entries before", "entries after"]);
+    for new in [false, true] {
+        for entries in [2, 50, 512] {
+            let inputs = (0..SHEETS).map(|_| everyday_extensions(random, entries, new));
+            let times = mean(inputs.map(|input| reading_extensions(&input)));
+            let before = if new { entries - 2 } else { entries };
+            print_row(&[before.to_string(), entries.to_string()], &times);
+        }
+    }
+}
+
 fn main() {
     let seed = env::args().nth(1).map_or(1, |word| word.parse().expect("a number"));
     let mut random = Random::new(seed);
@@ -324,4 +427,5 @@ fn main() {
     print_codec(&paths);
     paths.push(full_path(Full::Any, &mut random));
     print_records(&paths);
+    print_extensions(&mut random);
 }

@@ -1,18 +1,25 @@
-//! The graph judge against the tree judge, and the codec against itself, on
-//! random paths and sheets, without the proved library.
+//! The graph judge against the tree judge, and the codec and the reader of
+//! extensions each against itself, on random paths, sheets and extensions,
+//! without the proved library.
 //!
-//! Arguments: the seed (1), the number of random sheets (200000).
+//! Arguments: the seed (1), the number of random sheets (200000) and of random
+//! extensions.
 
 use std::env;
 use std::process::ExitCode;
 
 use reference::answer::{judge_path, judge_sheet, Answer, PLACES};
+use reference::extensions::{self, ANSWERS};
 use reference::path::Path;
 use reference::random::{self, Random, FULL_KINDS};
-use reference::{known, sheet, tree};
+use reference::random_extensions::{self, Input, Registers};
+use reference::{known, register, sheet, tree};
 
 /// The least number of random sheets that each answer must get.
 const OFTEN: usize = 500;
+
+/// The least number of random extensions that each answer must get.
+const OFTEN_READ: usize = 1_000;
 
 /// What was checked, and what the checks saw.
 #[derive(Default)]
@@ -100,6 +107,65 @@ fn check_round_trip(tally: &mut Tally, path: &Path) {
     tally.check(sheet::read(&sheet) == expected, "writing and reading", &sheet);
 }
 
+/// What the reader of extensions answers, and what it leaves.
+#[derive(PartialEq)]
+struct Read {
+    answer: (u8, usize),
+    register: Vec<u8>,
+    certificate: Vec<u16>,
+}
+
+/// Reads an input with a register, and with a certificate of nines.
+fn read_extensions(input: &Input, register: &[u8]) -> Read {
+    let (mut register, mut certificate) = (register.to_vec(), vec![9; input.places]);
+    let answer = extensions::read_into(input.extensions(), &mut register, &mut certificate);
+    Read { answer, register, certificate }
+}
+
+/// Whether a refusal leaves the register, and of the certificate so many places
+/// 0 and the others as they were.
+fn leaves(input: &Input, read: &Read, cleared: usize) -> bool {
+    let (zeros, rest) = read.certificate.split_at(cleared);
+    read.register == input.register
+        && zeros.iter().all(|&place| place == 0)
+        && rest.iter().all(|&place| place == 9)
+}
+
+/// Whether reading once more, with the register as it has become, gives the
+/// same and leaves it, and the old entries stand first in it.
+fn stands(input: &Input, read: &Read) -> bool {
+    let entries = |register: &[u8]| {
+        let bytes = register.first_chunk().expect("a whole register");
+        register::identifiers(bytes).concat()
+    };
+    read_extensions(input, &read.register) == *read
+        && entries(&read.register).starts_with(&entries(&input.register))
+}
+
+/// Reads random extensions, and checks what each answer leaves. Returns how
+/// often each number came.
+fn check_extensions(tally: &mut Tally, random: &mut Random, inputs: u64) -> [usize; 21] {
+    let mut times = [0; 21];
+    let mut registers = Registers::new(random);
+    for _ in 0..inputs {
+        let input = random_extensions::input(random, &mut registers);
+        let read = read_extensions(&input, &input.register);
+        let (number, _) = read.answer;
+        times[usize::from(number)] += 1;
+        let holds = match number {
+            0 => stands(&input, &read),
+            sheet::TOO_SHORT => leaves(&input, &read, 0),
+            _ => leaves(&input, &read, extensions::PLACES),
+        };
+        let values = input.values.each_ref().map(|value| value.octets()).concat();
+        tally.check(holds, &format!("extensions answered {number}"), &values);
+        if number == 0 {
+            registers.keep(&read.register);
+        }
+    }
+    times
+}
+
 fn main() -> ExitCode {
     let mut arguments = env::args().skip(1).map(|word| word.parse::<u64>().expect("a number"));
     let seed = arguments.next().unwrap_or(1);
@@ -142,6 +208,12 @@ fn main() -> ExitCode {
     }
     println!("trees compared: {}, over the cap: {}", tally.trees, tally.over_cap);
     println!("widest depth: {}", tally.most_nodes_at_a_depth);
+    let times = check_extensions(&mut tally, &mut random, sheets);
+    for number in ANSWERS {
+        let times = times[usize::from(number)];
+        println!("extensions answered {number}: {times}");
+        tally.check(times >= OFTEN_READ, &format!("answer {number} is too rare"), &[]);
+    }
     println!("{} passed, {} failed", tally.passed, tally.failed);
     if tally.failed == 0 {
         ExitCode::SUCCESS

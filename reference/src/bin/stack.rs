@@ -6,12 +6,14 @@
 use std::process::ExitCode;
 
 use reference::answer::{Answer, DEPTHS, PLACES};
+use reference::extensions::{self, ANSWERS};
 use reference::harm::HARMS;
 use reference::judge::{self, Judged, Judging, Writing, Written};
-use reference::known;
-use reference::path::Path;
+use reference::known_extensions::{self, Standing};
+use reference::path::{Path, MAX_LIST};
 use reference::random::{self, Random, FULL_KINDS};
-use reference::{everyday, record, sheet, stack};
+use reference::random_extensions::{self, Input};
+use reference::{everyday, known, record, register, sheet, stack};
 
 /// The bytes that each function must stay below: 40 KiB.
 const LIMIT: usize = 40_960;
@@ -89,13 +91,61 @@ fn print_paths() -> [usize; FUNCTIONS.len()] {
     most
 }
 
+/// The extensions to read, each with its name: the worked ones, full lists, and
+/// one with a bad register.
+fn all_extensions() -> Vec<(String, Input)> {
+    let rows = [known_extensions::read_rows(), known_extensions::refused_rows()].concat();
+    let mut all: Vec<(String, Input)> =
+        rows.iter().map(|row| (row.name.to_string(), row.input())).collect();
+    let mut random = Random::new(1);
+    for entries in [0, register::MOST - 3 * MAX_LIST] {
+        let input = random_extensions::full(&mut random, entries);
+        all.push((format!("{MAX_LIST} policies and {MAX_LIST} pairs, {entries} entries"), input));
+    }
+    let mut bad = Standing::Full.identifiers();
+    bad.swap_remove(0);
+    bad.push(register::ANY_POLICY.to_vec());
+    let bad = Input::new(Default::default(), 0, &register::of(&bad)[..]);
+    all.push(("512 entries, anyPolicy among them".to_string(), bad));
+    all
+}
+
+/// Measures the reader of extensions.
+fn reading(input: &Input) -> (u8, usize) {
+    let (mut register, mut certificate) = (input.register.clone(), [0; extensions::PLACES]);
+    let mut written = Written { number: sheet::TOO_SHORT, length: 0 };
+    let bytes = stack::overwritten(&mut || {
+        register.copy_from_slice(&input.register);
+        written = judge::read_extensions(input.extensions(), &mut register, &mut certificate);
+    });
+    (written.number, bytes)
+}
+
+/// The table of extensions by their answer. Returns the most.
+fn print_extensions() -> usize {
+    println!("\nThe most that reading extensions overwrites, by the answer:\n");
+    println!("| answer | extensions | bytes |");
+    println!("|---|---|---:|");
+    let measured: Vec<(String, (u8, usize))> =
+        all_extensions().into_iter().map(|(name, input)| (name, reading(&input))).collect();
+    for answer in ANSWERS {
+        let of_answer = measured.iter().filter(|(_, (number, _))| *number == answer);
+        if let Some((name, (_, bytes))) = of_answer.max_by_key(|(_, (_, bytes))| *bytes) {
+            println!("| {answer} | {name} | {bytes} |");
+        }
+    }
+    measured.iter().map(|&(_, (_, bytes))| bytes).max().unwrap_or(0)
+}
+
 fn main() -> ExitCode {
     let most = print_paths();
+    let functions = FUNCTIONS.map(|(name, _)| name).into_iter().chain(["read_extensions"]);
+    let most = most.into_iter().chain([print_extensions()]);
     println!("\nThe most of each function:\n");
     println!("| function | bytes |");
     println!("|---|---:|");
     let mut status = ExitCode::SUCCESS;
-    for ((name, _), bytes) in FUNCTIONS.into_iter().zip(most) {
+    for (name, bytes) in functions.zip(most) {
         println!("| skandrulo_{name} | {bytes} |");
         if bytes >= LIMIT {
             eprintln!("stack: {name} overwrites {bytes} bytes, not fewer than {LIMIT}");

@@ -1,9 +1,11 @@
 //! The proved judge against the graph judge, the tree judge and the codec of
-//! this package, on sheets and on records.
+//! this package, on sheets and on records, and its reader of extensions against
+//! the plain one.
 //!
-//! Arguments: the seed (1), the number of random sheets (200000); half as many
-//! random records are compared.
+//! Arguments: the seed (1), the number of random sheets (200000) and of random
+//! extensions; half as many random records are compared.
 
+mod extensions;
 mod records;
 mod run;
 
@@ -22,7 +24,7 @@ use run::{Judgement, Lengths, Run, BUFFERS, COUNTS, ENOUGH, RECORDS, TABLES};
 
 /// The least number of random sheets, and of records, that each answer must
 /// get.
-const OFTEN: usize = 500;
+pub const OFTEN: usize = 500;
 
 /// The cap on the tree of a damaged sheet, of which there are many.
 const DAMAGE_CAP: usize = 2_000;
@@ -93,11 +95,11 @@ impl Run {
         }
     }
 
-    /// An answer must have come up often.
-    pub fn often(&mut self, number: usize, times: usize, inputs: &str) {
+    /// An answer must have come up so many times at least.
+    pub fn often(&mut self, number: usize, times: usize, least: usize, inputs: &str) {
         println!("answer {number}: {times} {inputs}");
         let what = || format!("answer {number} is too rare in {inputs}");
-        self.check::<u8>(times >= OFTEN, what, &[]);
+        self.check::<u8>(times >= least, what, &[]);
     }
 
     /// Random sheets. Each answer must come up often.
@@ -114,7 +116,7 @@ impl Run {
             self.read_record(&sheet, length);
         }
         for (number, times) in answers.into_iter().enumerate() {
-            self.often(number, times, "random sheets");
+            self.often(number, times, OFTEN, "random sheets");
         }
     }
 
@@ -219,6 +221,7 @@ fn main() -> ExitCode {
     run.random_bytes();
     run.everyday_and_harm();
     run.records(sheets / 2);
+    run.extensions(sheets);
     println!("compared with the tree: {}, over its cap: {}", run.trees, run.over_cap);
     println!("{} passed, {} failed", run.passed, run.failed);
     if run.failed == 0 {

@@ -6,6 +6,7 @@ use reference::random_record::{self, OTHERS};
 use reference::{decoded, random, record};
 
 use crate::run::{Run, BUFFERS};
+use crate::OFTEN;
 
 /// The answers that a record can get.
 const ANSWERS: [usize; 8] = [0, 3, 4, 5, 7, 8, 9, 10];
@@ -32,7 +33,7 @@ impl Run {
         }
         println!("records: {}", tally.times.iter().sum::<usize>());
         for number in ANSWERS {
-            self.often(number, tally.times[number], "records");
+            self.often(number, tally.times[number], OFTEN, "records");
         }
     }
 

@@ -114,6 +114,13 @@ impl Judgement {
     }
 }
 
+/// Numbers in hex.
+pub fn hex<I: UpperHex>(numbers: &[I]) -> String {
+    let digits = 2 * size_of::<I>();
+    let hex: Vec<String> = numbers.iter().map(|number| format!("{number:0digits$X}")).collect();
+    hex.join(" ")
+}
+
 /// The run so far.
 pub struct Run {
     pub random: Random,
@@ -132,9 +139,7 @@ impl Run {
         }
         self.failed += 1;
         if self.failed <= SHOWN {
-            let digits = 2 * size_of::<I>();
-            let hex: Vec<String> = input.iter().map(|part| format!("{part:0digits$X}")).collect();
-            println!("FAILED {}: {}", what(), hex.join(" "));
+            println!("FAILED {}: {}", what(), hex(input));
         }
     }
 

@@ -1,0 +1,93 @@
+-- What the function for C and Rust gives, with each slice at entry and at exit: one table, and one claim that covers every row, by computation. At entry
+-- the places of the certificate hold 9.
+use Prim.Native.Nat.{ℕ, _-_}
+use mathlib.Core.Bool.{Bool, true, false}
+use mathlib.Core.List.{List, [], _∷_, _++_, map}
+use mathlib.Core.Path.{_≡_, refl}
+use lib.ListN.{replicate}
+use Rattle.rules.proofs.Notation.{filled}
+use Rattle.record.specs.Record.{flag-number, skip-number}
+use Rattle.extension_rules.specs.Extensions.{refusals}
+use Rattle.extension_rules.specs.Face as Face
+use Rattle.extension_rules.specs.Face.{Lent, extensions-read}
+use Rattle.extension_rules.proofs.Notation.{sequence, policy, pair}
+
+pub record Figure : Type 0 where
+  pub named : ℕ
+  pub figure : ℕ
+
+unfoldable pub figures : List Figure
+figures =
+    -- a certificate takes 54 places at most
+    record { named = Face.certificate-places; figure = 54 }
+    ∷ []
+
+-- Every limit is the figure expected.
+pub known-face-figures : map (λ r. r .named) figures ≡ map (λ r. r .figure) figures
+unfolding figures
+known-face-figures = refl
+
+-- The refusals are the numbers that paper 02 names for this function.
+pub known-refusals : refusals ≡ 3 ∷ 5 ∷ 13 ∷ 14 ∷ 15 ∷ 20 ∷ []
+unfolding refusals
+known-refusals = refl
+
+-- the four values, the self-issued flag, the two slices at entry, and what is expected
+pub record Row : Type 0 where
+  pub policies : List ℕ
+  pub mappings : List ℕ
+  pub constraints : List ℕ
+  pub any : List ℕ
+  pub self : Bool
+  pub register : List ℕ
+  pub certificate : List ℕ
+  pub lent : Lent
+
+-- the register, the places of the certificate; the result, the register and the certificate at exit
+row : List ℕ → List ℕ → List ℕ → List ℕ → List ℕ → ℕ → ℕ → List ℕ → List ℕ → Row
+row ps ms cs a r m k r′ c′ =
+    record { policies = ps; mappings = ms; constraints = cs; any = a; self = true; register = r; certificate = replicate m 9; lent = record { result = k; register = r′; certificate = c′ } }
+
+-- nothing is written
+unchanged : List ℕ → List ℕ → ℕ → ℕ → Row
+unfolding row
+unchanged ps r m k = row ps [] [] [] r m k r (replicate m 9)
+
+-- a register of n bytes with no entry, and one that is bad: an entry of no octets
+none : ℕ → List ℕ
+none n = replicate n 0
+
+bad : ℕ → List ℕ
+bad n = 0 ∷ 1 ∷ replicate (n - 2) 0
+
+unfoldable pub rows : List Row
+unfolding row unchanged none bad filled sequence policy pair
+rows =
+    -- 256 times the six places of a certificate with no list, and zeros to place 54
+    row [] [] [] [] (none 17922) 54 1536 (none 17922) (filled 54 0 (1 ∷ []))
+    -- places beyond 54 and bytes beyond 17,922 are as they were
+    ∷ row [] [] [] [] (none 17925) 57 1536 (none 17925) (filled 54 0 (1 ∷ []) ++ 9 ∷ 9 ∷ 9 ∷ [])
+    -- each part: the head, the policies, the issuers, the subjects; the new identifiers entered in the register
+    ∷ row (sequence (policy 0x2A)) (sequence (pair 0x2A 0x29)) (sequence (0x80 ∷ 0x01 ∷ 0x03 ∷ 0x81 ∷ 0x01 ∷ 0x04 ∷ [])) (0x02 ∷ 0x01 ∷ 0x05 ∷ []) (none 17922) 56 2304
+    (0 ∷ 2 ∷ 0 ∷ 1 ∷ replicate 1022 0 ++ (1 ∷ 0x2A ∷ replicate 31 0 ++ (1 ∷ 0x29 ∷ replicate 16861 0)))
+    (filled 54 0 (1 ∷ 1 ∷ 1 ∷ 4 ∷ 5 ∷ 6 ∷ 2 ∷ 2 ∷ 3 ∷ []) ++ 9 ∷ 9 ∷ [])
+    -- a refusal: its number, 54 zeros, places beyond and the register as they were
+    ∷ row (sequence (policy 0x2A) ++ 0x00 ∷ []) [] [] [] (none 17922) 56 13 (none 17922) (replicate 54 0 ++ 9 ∷ 9 ∷ [])
+    -- 20: the same
+    ∷ row [] [] [] [] (bad 17922) 55 20 (bad 17922) (replicate 54 0 ++ 9 ∷ [])
+    -- 7: a register of 17,921 bytes, a certificate of 53 places; nothing is written
+    ∷ unchanged [] (none 17921) 54 7
+    ∷ unchanged [] (none 17922) 53 7
+    -- 7 before 20 and before the values' faults
+    ∷ unchanged [] (bad 17921) 54 7
+    ∷ unchanged [] (bad 17922) 53 7
+    ∷ unchanged (0x31 ∷ []) (none 17921) 54 7
+    ∷ unchanged (0x31 ∷ []) (none 17922) 53 7
+    -- 7 for slices with nothing
+    ∷ unchanged [] [] 0 7
+    ∷ []
+
+-- Every four values are read for C and Rust as expected.
+pub known-faces : map (λ r. extensions-read (r .policies) (r .mappings) (r .constraints) (r .any) (r .self) (r .register) (r .certificate)) rows ≡ map (λ r. r .lent) rows
+unfolding extensions-read flag-number skip-number rows
+known-faces = refl

@@ -1,0 +1,154 @@
+-- `identify::identify` meets its contract
+use Prim.Native.Nat.{_+_, _≤_, _<_}
+use mathlib.Core.Bool.{false}
+use mathlib.Core.Path.{_≡_, refl, sym, ap, ap₂, subst, _∙_}
+use native.Mathlib.Omega.{arith}
+use lib.ListN.{length}
+use Rattle.extension_rules.specs.Register.{most-entries, any-octets, count, entries, alike, place-of}
+use Rattle.extension_laws.proofs.Good.{Fit, good-few}
+use Rattle.identify.specs.Known.{fresh-count, known, fresh, Holds}
+use Rattle.identify.proofs.Fresh.{known-length, place-entry, place-fresh, says-any, says-found, says-full, says-new, one-count, one-known, holds-one, no-entry, no-fresh}
+use borrow.Author.Needs.{needs}
+use Rattle.identify.proofs.identify.Statement.{statement}
+use Rattle.identify.proofs.identify.Tie as tie
+
+-- the identifier is not anyPolicy's
+other : (c : tie.Else1) → alike (c .before .before .before .before .before .args .id .now) any-octets ≡ false
+other c = sym (c .before .is-any .ensures) ∙ c .if1 .left
+
+-- it is no entry of the register
+none-entry : (c : tie.Else2) → place-of (c .before .before .before .before .before .before .before .before .args .id .now) (entries (c .before .before .before .before .before .before .before .before .args .r .now)) ≡ count (c .before .before .before .before .before .before .before .before .args .r .now)
+none-entry c = no-entry _ _ (c .before .find .ensures) (c .before .before .count .ensures) (c .if2 .left)
+
+-- it is not known
+none-known : (c : tie.Else3) → place-of (c .before .before .before .before .before .before .before .before .before .before .before .before .before .args .id .now) (known (c .before .before .before .before .before .before .before .before .before .before .before .before .before .args .r .now) (c .before .before .before .before .before .before .before .before .before .before .before .before .before .args .f .now)) ≡ length (known (c .before .before .before .before .before .before .before .before .before .before .before .before .before .args .r .now) (c .before .before .before .before .before .before .before .before .before .before .before .before .before .args .f .now))
+none-known c =
+    let a = c .before .before .before .before .before .before .before .before .before .before .before .before .before .args in
+    place-fresh (a .r .now) (a .f .now) (a .id .now) (none-entry (c .before .before .before .before .before))
+    ∙ ap (λ n. count (a .r .now) + n) (no-fresh _ _ (c .before .find-fresh .ensures) (c .before .before .before .wide .ensures) (c .if3 .left))
+    ∙ sym (known-length (a .r .now) (a .f .now))
+
+is-any-requires : tie.Need-is-any-requires
+is-any-requires c κs = search needs
+
+returns : tie.Need-returns
+returns c = let s = c .before .before .before .before .before in (says-any _ _ (s .pre .1 .1 .1) (sym (c .before .is-any .ensures) ∙ c .if1 .taken), (s .pre .0, omega arith))
+
+count-requires : tie.Need-count-requires
+count-requires c κs = search needs
+
+find-requires : tie.Need-find-requires
+find-requires c κs = search needs
+
+add-result : tie.Need-add-result
+add-result c = omega (arith, c .before .before .count .ensures, good-few _ (c .before .before .before .before .before .before .before .before .pre .0 .whole .good))
+
+cast-result : tie.Need-cast-result
+cast-result c = omega (arith, c .before .before .count .ensures, good-few _ (c .before .before .before .before .before .before .before .before .pre .0 .whole .good))
+
+returns-2 : tie.Need-returns-2
+returns-2 c =
+    let s = c .before .before .before .before .before .before .before .before in
+    let k = c .before .find .ensures in
+    let h : place-of (s .args .id .now) (entries (s .args .r .now)) < count (s .args .r .now) = omega (arith, k, c .before .before .count .ensures, c .if2 .taken) in
+    let e = place-entry (s .args .r .now) (s .args .f .now) (s .args .id .now) h in
+    (says-found _ _ (s .pre .1 .1 .1) (other (c .before .before .before)) _ (ap (λ m. 2 + m) (k ∙ sym e)) (omega (arith, e, known-length (s .args .r .now) (s .args .f .now))), (s .pre .0, omega arith))
+
+slice-read-wide : tie.Need-slice-read-wide
+slice-read-wide c = search needs
+
+wide-requires : tie.Need-wide-requires
+wide-requires c κs = search needs
+
+find-fresh-requires : tie.Need-find-fresh-requires
+find-fresh-requires c κs = search needs
+
+add-result-2 : tie.Need-add-result-2
+add-result-2 c = omega (arith, c .before .before .before .before .before .before .before .count .ensures, good-few _ (c .before .before .before .before .before .before .before .before .before .before .before .before .before .pre .0 .whole .good), c .before .before .before .wide .ensures, c .before .before .before .before .before .before .before .before .before .before .before .before .before .pre .0 .listed .few)
+
+add-result-3 : tie.Need-add-result-3
+add-result-3 c = omega (arith, c .before .before .before .before .before .before .before .count .ensures, good-few _ (c .before .before .before .before .before .before .before .before .before .before .before .before .before .pre .0 .whole .good), c .before .before .before .wide .ensures, c .before .before .before .before .before .before .before .before .before .before .before .before .before .pre .0 .listed .few)
+
+cast-result-2 : tie.Need-cast-result-2
+cast-result-2 c = omega (arith, c .before .before .before .before .before .before .before .count .ensures, good-few _ (c .before .before .before .before .before .before .before .before .before .before .before .before .before .pre .0 .whole .good), c .before .before .before .wide .ensures, c .before .before .before .before .before .before .before .before .before .before .before .before .before .pre .0 .listed .few)
+
+same-length : tie.Need-same-length
+same-length c = search needs
+
+returns-3 : tie.Need-returns-3
+returns-3 c =
+    let s = c .before .before .before .before .before .before .before .before .before .before .before .before .before in
+    let j = c .before .find-fresh .ensures in
+    let e = place-fresh (s .args .r .now) (s .args .f .now) (s .args .id .now) (none-entry (c .before .before .before .before .before)) in
+    (says-found _ _ (s .pre .1 .1 .1) (other (c .before .before .before .before .before .before .before .before)) _ (ap (λ m. 2 + m) (ap₂ _+_ (c .before .before .before .before .before .before .before .count .ensures) j ∙ sym e)) (omega (arith, e, j, c .before .before .before .wide .ensures, known-length (s .args .r .now) (s .args .f .now))), (s .pre .0, omega arith))
+
+add-if4 : tie.Need-add-if4
+add-if4 c = omega (arith, c .before .before .before .before .before .before .before .count .ensures, good-few _ (c .before .before .before .before .before .before .before .before .before .before .before .before .before .pre .0 .whole .good), c .before .before .before .wide .ensures, c .before .before .before .before .before .before .before .before .before .before .before .before .before .pre .0 .listed .few)
+
+same-length-2 : tie.Need-same-length-2
+same-length-2 c = search needs
+
+returns-4 : tie.Need-returns-4
+returns-4 c =
+    let s = c .before .before .before .before .before .before .before .before .before .before .before .before .before .before in
+    (says-full _ _ (s .pre .1 .1 .1) (other (c .before .before .before .before .before .before .before .before .before)) (none-known (c .before)) (omega (arith, c .before .before .before .before .before .before .before .before .count .ensures, c .before .before .before .before .wide .ensures, known-length (s .args .r .now) (s .args .f .now))), (s .pre .0, omega arith))
+
+add-fresh-requires : tie.Need-add-fresh-requires
+add-fresh-requires c κs = search needs
+
+add-result-4 : tie.Need-add-result-4
+add-result-4 c = search needs
+
+add-result-5 : tie.Need-add-result-5
+add-result-5 c = search needs
+
+cast-result-3 : tie.Need-cast-result-3
+cast-result-3 c = search needs
+
+same-length-3 : tie.Need-same-length-3
+same-length-3 c = search needs
+
+returns-5 : tie.Need-returns-5
+returns-5 c =
+    let s = c .before .before .before .before .before .before .before .before .before .before .before .before .before .before .before .before .before .before in
+    let r = s .args .r .now in
+    let f = s .args .f .now in
+    let id = s .args .id .now in
+    let e = c .before .before .add-fresh .ensures in
+    let room : length (known r f) < most-entries = omega (arith, c .before .before .before .before .before .before .before .before .before .before .before .before .count .ensures, c .before .before .before .before .before .before .before .before .wide .ensures, known-length r f) in
+    let fit : Fit id = record { content = s .pre .1 .1 .0; few = s .pre .1 .1 .1; other = other (c .before .before .before .before .before .before .before .before .before .before .before .before .before) } in (
+      says-new (known r f) id (fit .few) (fit .other) (2 + (c .before .before .before .before .before .before .before .before .before .before .before .before .count .result + c .before .before .before .before .before .before .before .before .wide .result)) _ (omega (arith, c .before .before .before .before .before .before .before .before .before .before .before .before .count .ensures, c .before .before .before .before .before .before .before .before .wide .ensures, known-length r f)) (ap (known r) e ∙ one-known f id (s .pre .0 .listed) (s .pre .1 .0) (fit .few) r) (none-known (c .before .before .before .before .before)) room,
+      (
+        subst (Holds r) (sym e) (holds-one r f id (s .pre .0) (s .pre .1 .0) fit (none-known (c .before .before .before .before .before)) room),
+        omega (arith, ap fresh-count e ∙ one-count f id (s .pre .0 .listed) (s .pre .1 .0) (fit .few)),
+      ),
+    )
+
+pub identify-spec : {M : Type 1} → statement M
+identify-spec =
+    tie.close
+    (tie.spec
+    is-any-requires
+    returns
+    count-requires
+    find-requires
+    add-result
+    cast-result
+    returns-2
+    slice-read-wide
+    wide-requires
+    find-fresh-requires
+    add-result-2
+    add-result-3
+    cast-result-2
+    same-length
+    returns-3
+    add-if4
+    same-length-2
+    returns-4
+    add-fresh-requires
+    add-result-4
+    add-result-5
+    cast-result-3
+    same-length-3
+    returns-5)

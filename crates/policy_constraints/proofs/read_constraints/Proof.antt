@@ -1,0 +1,126 @@
+-- `policy_constraints::read_constraints` meets its contract: the header, [0], [1], and nothing after them.
+use Prim.Native.Nat.{_<_}
+use mathlib.Core.Path.{_≡_, refl, sym, ap, ap₂, _∙_}
+use native.Mathlib.Omega.{arith}
+use borrow.Author.Needs.{needs}
+use lib.ListN.{length, drop}
+use Rattle.rules.specs.Numbers as Numbers
+use Rattle.record.specs.Unpacked.{skip-of}
+use Rattle.extension_rules.specs.Outcomes.{fine, fault}
+use Rattle.extension_rules.specs.Der.{sequence, tag-0, tag-1, value-of}
+use Rattle.extension_rules.specs.Extensions.{SkipRead, optional-skip, policy-constraints}
+use Rattle.extension_laws.proofs.Outcomes.{then-fine, then-fault}
+use Rattle.gathered.specs.Lists.{answer}
+use Rattle.gathered.proofs.Put.{answer-fine, answer-none, answer-fault}
+use Rattle.der.proofs.Says.{part-of, header-none, header-some}
+use Rattle.der.proofs.Lists.{left, left-is, content, ended-over, ended-there}
+use Rattle.policy_constraints.specs.Skips.{constrained}
+use Rattle.policy_constraints.proofs.Cases.{absent-there, constraints-none, constraints-bad, constraints-first, constraints-second, constraints-end, constrained-refused}
+use borrow.Author.Needs.{needs}
+use Rattle.policy_constraints.proofs.read_constraints.Statement.{statement}
+use Rattle.policy_constraints.proofs.read_constraints.Tie as tie
+
+-- [0] is absent or read
+first : (c : tie.Else3) → let s = c .before .before .before .before .before .before .before .before .args .s .now in let h = c .before .before .before .before .before .header-of .result in let e = c .before .before .optional-skip .result in optional-skip tag-0 (content h s) ≡ fine (record { skip = skip-of (e .skip); rest = drop (e .end) (content h s) })
+first c = sym (c .before .before .optional-skip .ensures .says) ∙ answer-none _ _ (c .if3 .left)
+
+-- [1], in what is left after [0]
+second : (c : tie.After-optional-skip2) → let s = c .before .before .before .before .before .before .before .before .before .before .args .s .now in let h = c .before .before .before .before .before .before .before .header-of .result in let e = c .before .before .before .before .optional-skip .result in let m = c .optional-skip2 .result in optional-skip tag-1 (drop (e .end) (content h s)) ≡ answer (m .fault) (record { skip = skip-of (m .skip); rest = drop (m .end) (left (e .end) (content h s)) })
+second c = ap (optional-skip tag-1) (sym (left-is (content (c .before .before .before .before .before .before .before .header-of .result) (c .before .before .before .before .before .before .before .before .before .before .args .s .now)) (c .before .before .before .before .optional-skip .result .end))) ∙ sym (c .optional-skip2 .ensures .says)
+
+returns : tie.Need-returns
+unfolding constrained
+returns c = answer-fine _ ∙ ap₂ (λ a b. fine (record { require-explicit = a; inhibit-mapping = b })) absent-there absent-there ∙ sym (constraints-none _ (c .if1 .taken))
+
+header-of-requires : tie.Need-header-of-requires
+header-of-requires c κs = search needs
+
+refused-requires : tie.Need-refused-requires
+refused-requires c κs = search needs
+
+returns-2 : tie.Need-returns-2
+returns-2 c = constrained-refused (c .refused .result) (c .refused .ensures) (λ e. omega arith) ∙ sym (constraints-bad _ (omega arith) _ (header-none (c .before .before .header-of .ensures) (c .before .if2 .taken)))
+
+sub-content : tie.Need-sub-content
+sub-content c = search needs
+
+part-content-start : tie.Need-part-content-start
+part-content-start c = search needs
+
+part-content-end : tie.Need-part-content-end
+part-content-end c = search needs
+
+optional-skip-requires : tie.Need-optional-skip-requires
+optional-skip-requires c κs = search needs
+
+refused-requires-2 : tie.Need-refused-requires-2
+refused-requires-2 c κs = search needs
+
+returns-3 : tie.Need-returns-3
+returns-3 c =
+    let e = c .before .before .before .optional-skip in
+    constrained-refused (c .refused2 .result) (c .refused2 .ensures) (c .before .if3 .taken) ∙ sym (constraints-first _ (omega arith) _ (header-some (c .before .before .before .before .before .before .header-of .ensures) (omega arith)) _ (sym (e .ensures .says) ∙ answer-fault _ _ (c .before .if3 .taken)))
+
+sub-rest : tie.Need-sub-rest
+sub-rest c = search needs
+
+part-rest-start : tie.Need-part-rest-start
+part-rest-start c = search needs
+
+part-rest-end : tie.Need-part-rest-end
+part-rest-end c = search needs
+
+optional-skip-requires-2 : tie.Need-optional-skip-requires-2
+optional-skip-requires-2 c κs = search needs
+
+refused-requires-3 : tie.Need-refused-requires-3
+refused-requires-3 c κs = search needs
+
+returns-4 : tie.Need-returns-4
+returns-4 c =
+    constrained-refused (c .refused3 .result) (c .refused3 .ensures) (c .before .if4 .taken) ∙ sym (constraints-second _ (omega arith) _ (header-some (c .before .before .before .before .before .before .before .before .before .before .header-of .ensures) (omega arith)) _ (first (c .before .before .before .before .before)) _ (second (c .before .before .before) ∙ answer-fault _ _ (c .before .if4 .taken)))
+
+refused-requires-4 : tie.Need-refused-requires-4
+refused-requires-4 c κs = search needs
+
+returns-5 : tie.Need-returns-5
+returns-5 c =
+    constrained-refused (c .refused4 .result) (c .refused4 .ensures) (λ e. omega arith) ∙ sym (constraints-end _ (omega arith) _ (header-some (c .before .before .before .before .before .before .before .before .before .before .before .before .header-of .ensures) (omega arith)) _ (first (c .before .before .before .before .before .before .before)) _ (second (c .before .before .before .before .before) ∙ answer-none _ _ (c .before .before .before .if4 .left)) ∙ then-fault _ _ (ended-over _ _ _ (c .before .if5 .taken)))
+
+refused-requires-5 : tie.Need-refused-requires-5
+refused-requires-5 c κs = search needs
+
+returns-6 : tie.Need-returns-6
+returns-6 c =
+    constrained-refused (c .refused5 .result) (c .refused5 .ensures) (λ e. omega arith) ∙ sym (constraints-end _ (omega arith) _ (header-some (c .before .before .before .before .before .before .before .before .before .before .before .before .before .header-of .ensures) (omega arith)) _ (first (c .before .before .before .before .before .before .before .before)) _ (second (c .before .before .before .before .before .before) ∙ answer-none _ _ (c .before .before .before .before .if4 .left)) ∙ then-fine _ _ (ended-there _ _ _ (c .before .before .if5 .left)) ∙ ended-over _ _ _ (c .before .if6 .taken))
+
+returns-7 : tie.Need-returns-7
+unfolding constrained
+returns-7 c =
+    answer-fine _ ∙ sym (constraints-end _ (omega arith) _ (header-some (c .before .before .before .before .before .before .before .before .before .before .before .before .header-of .ensures) (omega arith)) _ (first (c .before .before .before .before .before .before .before)) _ (second (c .before .before .before .before .before) ∙ answer-none _ _ (c .before .before .before .if4 .left)) ∙ then-fine _ _ (ended-there _ _ _ (c .before .if5 .left)) ∙ ended-there _ _ _ (c .if6 .left))
+
+pub read-constraints-spec : {M : Type 1} → statement M
+read-constraints-spec =
+    tie.close
+    (tie.spec
+    returns
+    header-of-requires
+    refused-requires
+    returns-2
+    sub-content
+    part-content-start
+    part-content-end
+    optional-skip-requires
+    refused-requires-2
+    returns-3
+    sub-rest
+    part-rest-start
+    part-rest-end
+    optional-skip-requires-2
+    refused-requires-3
+    returns-4
+    refused-requires-4
+    returns-5
+    refused-requires-5
+    returns-6
+    returns-7)

@@ -1,0 +1,374 @@
+//! The extensions of a certificate that speak of policies (RFC 5280 4.2.1.4,
+//! 4.2.1.5, 4.2.1.11 and 4.2.1.14), read into the certificate's numbers as they
+//! stand in a record. Paper 02, request One, and include/judge.h are quoted.
+
+use crate::der::{self, Reader, NOT_DER};
+use crate::path::{ANY, MAX_LIST};
+use crate::record::{skip_number, CERTIFICATE_HEAD};
+use crate::register::{self, Register, ANY_POLICY, BAD_REGISTER};
+use crate::sheet::{REPEATED_POLICY, TOO_SHORT, WRONG_COUNT};
+
+/// "14 exactly when a new identifier is needed and 512 stand"
+pub const REGISTER_FULL: u8 = 14;
+/// "15 for an identifier above 32 octets"
+pub const LONG_IDENTIFIER: u8 = 15;
+
+/// The numbers that the reader answers.
+pub const ANSWERS: [u8; 8] = [
+    0,
+    WRONG_COUNT,
+    REPEATED_POLICY,
+    TOO_SHORT,
+    NOT_DER,
+    REGISTER_FULL,
+    LONG_IDENTIFIER,
+    BAD_REGISTER,
+];
+
+/// The places "of the longest certificate" in a record.
+pub const PLACES: usize = CERTIFICATE_HEAD + 3 * MAX_LIST;
+
+/// "the values of certificatePolicies, policyMappings, policyConstraints and
+/// inhibitAnyPolicy", of which an empty one is absent, and the flag.
+#[derive(Clone, Copy, Default)]
+pub struct Extensions<'v> {
+    pub policies: &'v [u8],
+    pub mappings: &'v [u8],
+    pub constraints: &'v [u8],
+    pub inhibit_any: &'v [u8],
+    pub self_issued: u8,
+}
+
+/// Reads a certificate's extensions: 7 first, then 20, then the first fault of
+/// the values. Returns the number and the places that the certificate takes, 0
+/// on refusal. "After any refusal the register is unchanged and the certificate
+/// cleared"; after 7 nothing is written.
+pub fn read_into(
+    extensions: Extensions,
+    register: &mut [u8],
+    certificate: &mut [u16],
+) -> (u8, usize) {
+    let (Some(register), Some(certificate)) =
+        (register.first_chunk_mut(), certificate.first_chunk_mut::<PLACES>())
+    else {
+        return (TOO_SHORT, 0);
+    };
+    certificate.fill(0);
+    match read(extensions, register) {
+        Ok(read) => (0, read.write(certificate)),
+        Err(number) => (number, 0),
+    }
+}
+
+/// Reads the values "in the order named", and enters the new identifiers.
+fn read(extensions: Extensions, register: &mut [u8; register::BYTES]) -> Result<Certificate, u8> {
+    let mut register = Register::open(register)?;
+    let mut numbering = Numbering { register: &register, new: Vec::new() };
+    let policies = read_policies(extensions.policies, &mut numbering)?;
+    let (issuers, subjects) = read_mappings(extensions.mappings, &mut numbering)?;
+    let (explicit, mapping) = read_constraints(extensions.constraints)?;
+    let inhibit_any = read_inhibit_any(extensions.inhibit_any)?;
+    for identifier in numbering.new {
+        register.enter(identifier);
+    }
+    Ok(Certificate {
+        self_issued: extensions.self_issued != 0,
+        policies,
+        issuers,
+        subjects,
+        skips: [explicit, mapping, inhibit_any],
+    })
+}
+
+/// Up to sixteen policies.
+#[derive(Default)]
+struct List {
+    places: [u16; MAX_LIST],
+    count: usize,
+}
+
+impl List {
+    fn policies(&self) -> &[u16] {
+        &self.places[..self.count]
+    }
+
+    fn is_full(&self) -> bool {
+        self.count == MAX_LIST
+    }
+
+    /// Adds a policy to a list that is not full.
+    fn push(&mut self, policy: u16) {
+        self.places[self.count] = policy;
+        self.count += 1;
+    }
+}
+
+/// What the values say, and the flag.
+struct Certificate {
+    self_issued: bool,
+    policies: List,
+    issuers: List,
+    subjects: List,
+    skips: [Option<u8>; 3],
+}
+
+impl Certificate {
+    /// Writes the certificate "as it stands in a record" over zeros, and
+    /// returns the places that it takes.
+    fn write(&self, places: &mut [u16; PLACES]) -> usize {
+        let [policies, pairs] = [&self.policies, &self.issuers].map(|list| list.count as u16);
+        let [explicit, mapping, any] = self.skips.map(skip_number);
+        let head = [u16::from(self.self_issued), policies, pairs, explicit, mapping, any];
+        let mut end = 0;
+        for part in
+            [&head[..], self.policies.policies(), self.issuers.policies(), self.subjects.policies()]
+        {
+            places[end..end + part.len()].copy_from_slice(part);
+            end += part.len();
+        }
+        end
+    }
+}
+
+/// The numbers of identifiers: those of the register, and after them the
+/// identifiers that are new in this call.
+struct Numbering<'r, 'v> {
+    register: &'r Register<'r>,
+    new: Vec<&'v [u8]>,
+}
+
+impl<'v> Numbering<'_, 'v> {
+    /// The number of an identifier: 15, then 14.
+    fn number(&mut self, identifier: &'v [u8]) -> Result<u16, u8> {
+        if identifier.len() > register::LONGEST {
+            return Err(LONG_IDENTIFIER);
+        }
+        if identifier == ANY_POLICY {
+            return Ok(ANY);
+        }
+        if let Some(number) = self.register.find(identifier) {
+            return Ok(number);
+        }
+        let count = self.register.count();
+        if let Some(place) = self.new.iter().position(|&new| new == identifier) {
+            return Ok(register::number(count + place));
+        }
+        let position = count + self.new.len();
+        if position == register::MOST {
+            return Err(REGISTER_FULL);
+        }
+        self.new.push(identifier);
+        Ok(register::number(position))
+    }
+}
+
+/// The elements of a value that is a list: "An empty list of policies or pairs
+/// is 3, at its header".
+fn elements<'v>(value: &mut Reader<'v>) -> Result<Reader<'v>, u8> {
+    let elements = Reader::new(value.value(der::SEQUENCE)?);
+    if elements.is_empty() {
+        return Err(WRONG_COUNT);
+    }
+    Ok(elements)
+}
+
+/// certificatePolicies. "At one identifier 13, then 3 beyond the sixteenth
+/// policy or pair, then 15, 14, 5."
+fn read_policies<'v>(value: &'v [u8], numbering: &mut Numbering<'_, 'v>) -> Result<List, u8> {
+    let mut policies = List::default();
+    let mut value = Reader::new(value);
+    if value.is_empty() {
+        return Ok(policies);
+    }
+    let mut elements = elements(&mut value)?;
+    while !elements.is_empty() {
+        let mut information = Reader::new(elements.value(der::SEQUENCE)?);
+        let identifier = information.identifier()?;
+        if policies.is_full() {
+            return Err(WRONG_COUNT);
+        }
+        let policy = numbering.number(identifier)?;
+        if policies.policies().contains(&policy) {
+            return Err(REPEATED_POLICY);
+        }
+        policies.push(policy);
+        if !information.is_empty() {
+            check_qualifiers(information.value(der::SEQUENCE)?)?;
+        }
+        information.end()?;
+    }
+    value.end()?;
+    Ok(policies)
+}
+
+/// "Qualifiers, one or more, are checked as PolicyQualifierInfo, with any
+/// identifier of any length, the inner value by tag and length only, and
+/// dropped."
+fn check_qualifiers(qualifiers: &[u8]) -> Result<(), u8> {
+    let mut qualifiers = Reader::new(qualifiers);
+    if qualifiers.is_empty() {
+        return Err(NOT_DER);
+    }
+    while !qualifiers.is_empty() {
+        let mut qualifier = Reader::new(qualifiers.value(der::SEQUENCE)?);
+        qualifier.identifier()?;
+        qualifier.any_value()?;
+        qualifier.end()?;
+    }
+    Ok(())
+}
+
+/// policyMappings: the issuers and the subjects of the pairs. A pair too many
+/// is 3 at its issuer.
+fn read_mappings<'v>(
+    value: &'v [u8],
+    numbering: &mut Numbering<'_, 'v>,
+) -> Result<(List, List), u8> {
+    let (mut issuers, mut subjects) = (List::default(), List::default());
+    let mut value = Reader::new(value);
+    if value.is_empty() {
+        return Ok((issuers, subjects));
+    }
+    let mut elements = elements(&mut value)?;
+    while !elements.is_empty() {
+        let mut pair = Reader::new(elements.value(der::SEQUENCE)?);
+        let issuer = pair.identifier()?;
+        if issuers.is_full() {
+            return Err(WRONG_COUNT);
+        }
+        issuers.push(numbering.number(issuer)?);
+        subjects.push(numbering.number(pair.identifier()?)?);
+        pair.end()?;
+    }
+    value.end()?;
+    Ok((issuers, subjects))
+}
+
+/// policyConstraints: requireExplicitPolicy, then inhibitPolicyMapping. "An
+/// empty policyConstraints means both absent."
+fn read_constraints(value: &[u8]) -> Result<(Option<u8>, Option<u8>), u8> {
+    let mut value = Reader::new(value);
+    if value.is_empty() {
+        return Ok((None, None));
+    }
+    let mut fields = Reader::new(value.value(der::SEQUENCE)?);
+    let explicit = optional_skip(&mut fields, der::CONTEXT_0)?;
+    let mapping = optional_skip(&mut fields, der::CONTEXT_1)?;
+    fields.end()?;
+    value.end()?;
+    Ok((explicit, mapping))
+}
+
+/// The skip value that comes next, if it has this tag.
+fn optional_skip(fields: &mut Reader, tag: u8) -> Result<Option<u8>, u8> {
+    if !fields.has_next(tag) {
+        return Ok(None);
+    }
+    Ok(Some(der::skip_value(fields.value(tag)?)?))
+}
+
+/// inhibitAnyPolicy.
+fn read_inhibit_any(value: &[u8]) -> Result<Option<u8>, u8> {
+    let mut value = Reader::new(value);
+    if value.is_empty() {
+        return Ok(None);
+    }
+    let skip = der::skip_value(value.value(der::INTEGER)?)?;
+    value.end()?;
+    Ok(Some(skip))
+}
+
+#[cfg(test)]
+mod tests {
+    use super::*;
+    use crate::known_extensions::{P, Q};
+    use crate::register::BYTES;
+
+    /// One policy, P.
+    const ONE: &[u8] = &[0x30, 7, 0x30, 5, 6, 3, 0x2A, 3, 4];
+
+    /// The places of a certificate with one policy.
+    fn one_policy(self_issued: u16, policy: u16) -> [u16; PLACES] {
+        let mut places = [0; PLACES];
+        places[..7].copy_from_slice(&[self_issued, 1, 0, 0, 0, 0, policy]);
+        places
+    }
+
+    #[test]
+    fn short_slices_are_7_first() {
+        let extensions = Extensions { policies: &[0], ..Extensions::default() };
+        let (mut bytes, mut places) = (vec![0xEE; BYTES], [7; PLACES]);
+        assert_eq!(read_into(extensions, &mut bytes[1..], &mut places), (7, 0));
+        assert_eq!(read_into(extensions, &mut bytes, &mut places[1..]), (7, 0));
+        assert_eq!(read_into(extensions, &mut [], &mut []), (7, 0));
+        assert!(bytes.iter().all(|&byte| byte == 0xEE) && places == [7; PLACES]);
+    }
+
+    #[test]
+    fn a_bad_register_is_20_before_the_values() {
+        for policies in [&[][..], &[0], ONE] {
+            let extensions = Extensions { policies, self_issued: 1, ..Extensions::default() };
+            let (mut bytes, mut places) = (vec![0xEE; BYTES], [7; PLACES]);
+            assert_eq!(read_into(extensions, &mut bytes, &mut places), (20, 0));
+            assert!(bytes.iter().all(|&byte| byte == 0xEE) && places == [0; PLACES]);
+        }
+    }
+
+    #[test]
+    fn what_is_beyond_stays() {
+        let (mut bytes, mut places) = (register::of(&[Q]).to_vec(), vec![7; PLACES + 2]);
+        bytes.extend([0xEE; 3]);
+        let extensions = Extensions { policies: ONE, self_issued: 2, ..Extensions::default() };
+        assert_eq!(read_into(extensions, &mut bytes, &mut places), (0, 7));
+        assert_eq!(places[..PLACES], one_policy(1, 3));
+        assert_eq!((&places[PLACES..], &bytes[BYTES..]), (&[7, 7][..], &[0xEE; 3][..]));
+        assert!(bytes[..BYTES] == register::of(&[Q, P])[..]);
+        let extensions = Extensions { policies: &ONE[1..], self_issued: 2, ..extensions };
+        assert_eq!(read_into(extensions, &mut bytes, &mut places), (13, 0));
+        assert_eq!((&places[..PLACES], &places[PLACES..]), (&[0; PLACES][..], &[7, 7][..]));
+        assert!(bytes[..BYTES] == register::of(&[Q, P])[..]);
+    }
+
+    #[test]
+    fn calls_fill_a_register() {
+        let mut bytes = vec![0; BYTES];
+        for policy in 2..register::number(register::MOST) {
+            let last = [policy / 128, policy % 128].map(|octet| octet as u8);
+            let policies = [&[0x30, 8, 0x30, 6, 6, 4, 0x2B, 5], &last[..]].concat();
+            let extensions = Extensions { policies: &policies, ..Extensions::default() };
+            for _ in 0..2 {
+                let mut places = [7; PLACES];
+                assert_eq!(read_into(extensions, &mut bytes, &mut places), (0, 7));
+                assert_eq!(places, one_policy(0, policy));
+            }
+        }
+        assert_eq!(bytes[..2], [2, 0]);
+        let extensions = Extensions { policies: ONE, ..Extensions::default() };
+        let (before, mut places) = (bytes.clone(), [7; PLACES]);
+        assert_eq!(read_into(extensions, &mut bytes, &mut places), (14, 0));
+        assert!(bytes == before && places == [0; PLACES]);
+    }
+
+    #[test]
+    fn the_longest_certificate() {
+        let identifier = |kind, place| vec![6, 3, 0x2B, kind, place];
+        let policy = |place| [vec![0x30, 5], identifier(1, place)].concat();
+        let pair = |place| [vec![0x30, 10], identifier(2, place), identifier(3, place)].concat();
+        let policies: Vec<u8> = (0..16).flat_map(policy).collect();
+        let pairs: Vec<u8> = (0..16).flat_map(pair).collect();
+        let extensions = Extensions {
+            policies: &[&[0x30, 112], &policies[..]].concat(),
+            mappings: &[&[0x30, 0x81, 192], &pairs[..]].concat(),
+            constraints: &[0x30, 7, 0x80, 1, 9, 0x81, 2, 1, 0],
+            inhibit_any: &[2, 1, 0],
+            self_issued: 255,
+        };
+        let (mut bytes, mut places) = (vec![0; BYTES], [7; PLACES]);
+        assert_eq!(read_into(extensions, &mut bytes, &mut places), (0, PLACES));
+        assert_eq!(places[..6], [1, 16, 16, 10, 256, 1]);
+        assert!(places[6..22].iter().copied().eq(2..18));
+        assert!(places[22..38].iter().copied().eq((18..50).step_by(2)));
+        assert!(places[38..].iter().copied().eq((19..50).step_by(2)));
+        assert_eq!(bytes[..2], [0, 48]);
+    }
+}
