@@ -1,7 +1,7 @@
 /* The policy judge for C. Link target/staticlib/libjudge.a, which `rt staticlib judge` writes (x86-64 Linux).
  *
- * Each slice is a pointer and the number of its elements. A pointer may not be null, also where the length is 0, the slices
- * may not overlap, and each must have as many elements as its length says. Nothing else is asked: any bytes may come in, and a
+ * Each slice is a pointer and the number of its elements. A pointer may not be null, also where the length is 0, a slice that is written
+ * may not overlap another, and each must have as many elements as its length says. Nothing else is asked: any bytes may come in, and a
  * slice that is too short is answered and never overrun. What each function promises is proved; see docs/PROMISES.md.
  */
 #ifndef SKANDRULO_JUDGE_H
@@ -110,8 +110,8 @@ uint32_t skandrulo_read_record(const uint8_t *sheet, size_t sheet_len, uint16_t 
  *     bytes 1027 + 33 k and after     its octets
  *
  * The entry at position k has policy number k + 2. anyPolicy, 55 1D 20 00 hex, is always 1 and is no entry. Each entry is valid content of a DER
- * identifier, and no two are alike: in ascending order, octet by octet, each is above the one before it. Bytes beyond the entries and beyond an
- * entry's length never matter.
+ * identifier, and no two are alike: in ascending order, octet by octet, with what another starts with before it, each is above the one before it. Bytes
+ * beyond the entries and beyond an entry's length never matter.
  */
 enum {
     SKANDRULO_REGISTER_COUNT = 0,
@@ -121,7 +121,8 @@ enum {
 };
 
 /* Reads a certificate's extensions: the values of certificatePolicies, policyMappings, policyConstraints and inhibitAnyPolicy, that is the content of
- * each extnValue. A value of length 0 says that the extension is absent. `self_issued` is set where it is not 0.
+ * each extnValue. A value of length 0 says that the extension is absent: a caller that meets an extension with an empty value has to refuse it itself.
+ * `self_issued` is set where it is not 0.
  * Returns the refusal, or 256 times the number of places that the certificate takes.
  *
  * 7, where `reg` has fewer than SKANDRULO_REGISTER bytes or `certificate` fewer than SKANDRULO_CERTIFICATE places, comes first: nothing is written.
