@@ -1,8 +1,7 @@
 -- A SEQUENCE OF read by its header and by those of its elements, in the code's terms.
-use Prim.Native.Nat.{ℕ, suc, _-_, _≤_, _<_}
-use mathlib.Core.Bool.{Bool, true, false}
-use mathlib.Core.List.{List, [], _∷_}
-use mathlib.Core.Path.{_≡_, refl, sym, ap, ap₂, _∙_}
+use Prim.Native.Nat.{ℕ, _-_, _≤_, _<_}
+use mathlib.Core.List.{List}
+use mathlib.Core.Path.{_≡_, sym, ap, _∙_}
 use native.Mathlib.Omega.{arith}
 use lib.Dec.{eqb}
 use lib.ListN.{length, take, drop, length-take, length-drop}
@@ -11,7 +10,7 @@ use borrow.Author.Tests.{eqb-true, eqb-false}
 use Rattle.rules.specs.Numbers as Numbers
 use Rattle.laws.proofs.Sets.{by-cases}
 use Rattle.extension_rules.specs.Outcomes.{Outcome, fault, fine, _then_, when}
-use Rattle.extension_rules.specs.Der.{Part, sequence, value-of}
+use Rattle.extension_rules.specs.Der.{sequence, value-of}
 use Rattle.extension_rules.specs.Extensions.{ended, elements, list-of}
 use Rattle.extension_laws.proofs.Outcomes.{when-yes, when-no, then-fine, then-fault}
 use Rattle.extension_laws.proofs.Elements.{ended-yes, ended-no, all-fault, all-step, list-none, list-empty, list-some}

@@ -1,8 +1,8 @@
 -- What a header, and the part that an identifier's reader returns, say of the octets that they were read from.
-use Prim.Native.Nat.{ℕ, zero, suc, _-_, _≤_, _<_}
-use mathlib.Core.Bool.{Bool, true, false, not, _&&_, true≢false}
+use Prim.Native.Nat.{ℕ, _-_, _<_}
+use mathlib.Core.Bool.{true, false, true≢false}
 use mathlib.Core.List.{List, [], _∷_}
-use mathlib.Core.Path.{_≡_, refl, sym, ap, ap₂, subst, _∙_}
+use mathlib.Core.Path.{_≡_, sym, ap, _∙_}
 use native.Mathlib.Omega.{arith}
 use lib.Dec.{ltb}
 use lib.ListN.{length, take, drop}
@@ -10,8 +10,8 @@ use borrow.Author.Tests.{lt-ltb, le-ltb, ltb-true, ltb-false}
 use Rattle.rules.specs.Numbers as Numbers
 use Rattle.rules.specs.Sets.{pick, empty}
 use Rattle.laws.proofs.Sets.{by-cases, is-false, pick-yes, pick-no}
-use Rattle.extension_rules.specs.Outcomes.{Outcome, fault, fine, _then_, when}
-use Rattle.extension_rules.specs.Der.{Part, object-identifier, value-of, subidentifiers, identifier-content, identifier}
+use Rattle.extension_rules.specs.Outcomes.{Outcome, fault, fine}
+use Rattle.extension_rules.specs.Der.{Part, object-identifier, value-of, identifier-content, identifier}
 use Rattle.extension_laws.proofs.Outcomes.{when-yes, when-no, then-fine, then-fault}
 use Rattle.der.specs.declared.Header.{Header}
 use Rattle.der.specs.Headers.{part-at, Headed}

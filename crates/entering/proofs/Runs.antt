@@ -1,10 +1,10 @@
 -- Runs of stores: octets copied, bytes moved up, and the three runs that enter an identifier.
-use Prim.Native.Nat.{ℕ, zero, suc, _+_, _*_, _-_, _/_, _%_, _≤_, _<_}
-use mathlib.Core.List.{List, [], _∷_, _++_}
+use Prim.Native.Nat.{ℕ, suc, _+_, _*_, _-_, _/_, _%_, _≤_, _<_}
+use mathlib.Core.List.{List, _∷_, _++_}
 use mathlib.Core.Path.{_≡_, refl, sym, ap, ap₂, _∙_}
 use native.Mathlib.Numerals.{add-one}
 use native.Mathlib.Omega.{arith}
-use lib.ListN.{length, take, drop, getD, set, length-set}
+use lib.ListN.{length, take, drop, getD, set}
 use lib.Seq.{sets, length-sets, drop-cons}
 use Rattle.extension_rules.specs.Register.{order-start, entry-place, two-bytes, count, rank, enter}
 use Rattle.record.proofs.Put.{sets-append, set-before, sets-before}

@@ -1,8 +1,8 @@
 -- A good register with one entry more is good: its entries are those before and the new one, and its order has the new one at its rank.
 use Prim.Native.Nat.{ℕ, zero, suc, _+_, _*_, _-_, _/_, _%_, _≤_, _<_}
-use mathlib.Core.Bool.{Bool, true, false, not, _&&_}
+use mathlib.Core.Bool.{true, false}
 use mathlib.Core.List.{List, [], _∷_, _++_}
-use mathlib.Core.Logic.{_⊎_, inl, inr, ⊎-elim}
+use mathlib.Core.Logic.{_⊎_, ⊎-elim}
 use mathlib.Core.Path.{_≡_, refl, sym, ap, ap₂, subst, _∙_}
 use native.Mathlib.Nat.{div-add-mod'}
 use native.Mathlib.Omega.{arith}
@@ -10,12 +10,11 @@ use lib.Dec.{ltb}
 use lib.ListN.{length, take, drop, getD, length-take, length-drop, length-append}
 use lib.Seq.{sets, length-sets, getD-take, getD-drop, getD-append-add}
 use borrow.Author.Tests.{ltb-true, ltb-false, lt-ltb, le-ltb}
-use Rattle.laws.proofs.Sets.{by-cases, and-in, and-out, is-false, clash, not-in}
-use Rattle.extension_rules.specs.Der.{identifier-content}
-use Rattle.extension_rules.specs.Register.{most-entries, most-octets, entry-bytes, order-start, entries-start, register-bytes, any-octets, two-bytes, two-at, count, octets-at, entry-place, entry, position, upto, entries, alike, below, all-upto, good-entry, good-place, good-register, rank, enter}
+use Rattle.laws.proofs.Sets.{by-cases, and-in, is-false, clash, not-in}
+use Rattle.extension_rules.specs.Register.{most-entries, most-octets, order-start, entries-start, register-bytes, two-bytes, two-at, count, entry-place, entry, position, upto, entries, alike, below, good-entry, good-place, good-register, rank, enter}
 use Rattle.octets.proofs.Order.{alike-sym, below-total}
-use Rattle.extension_laws.proofs.Upto.{split-last, upto-same, all-in, all-at}
-use Rattle.extension_laws.proofs.Good.{Fit, good-few, good-length, good-fit, good-position, good-ascends}
+use Rattle.extension_laws.proofs.Upto.{split-last, upto-same, all-in}
+use Rattle.extension_laws.proofs.Good.{Fit, good-length, good-fit, good-position, good-ascends}
 use Rattle.extension_laws.proofs.Search.{Bracket, at-rank}
 use Rattle.extension_laws.proofs.Stores.{kept-before, kept-after, stored, octets-same, octets-are}
 

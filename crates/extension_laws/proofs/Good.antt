@@ -1,19 +1,19 @@
 -- What a good register has: each entry fits, its order ascends and has every entry, and so no two are alike.
-use Prim.Native.Nat.{ℕ, zero, suc, _+_, _≤_, _<_}
-use mathlib.Core.Bool.{Bool, true, false, not, _&&_, true≢false}
-use mathlib.Core.List.{List, [], _∷_, _++_}
-use mathlib.Core.Logic.{_⊎_, inl, inr, ⊎-elim}
-use mathlib.Core.Path.{_≡_, refl, sym, ap, ap₂, subst, _∙_}
+use Prim.Native.Nat.{ℕ, zero, suc, _≤_, _<_}
+use mathlib.Core.Bool.{true, false, not, _&&_}
+use mathlib.Core.List.{List, [], _∷_}
+use mathlib.Core.Logic.{_⊎_, ⊎-elim}
+use mathlib.Core.Path.{_≡_, refl, sym, ap, subst, _∙_}
 use native.Mathlib.Omega.{arith}
 use lib.Dec.{eqb, ltb}
 use lib.ListN.{length, getD, drop, length-take}
 use borrow.Author.Tests.{eqb-true, ltb-true, ltb-false, not-true}
 use Rattle.rules.specs.Sets.{_∈_}
-use Rattle.laws.proofs.Sets.{by-cases, and-out, is-false, clash, mem-append, mem-one, or-out, or-right, or-left, eqb-same, Unique, Subset, unique-append, pigeonhole}
+use Rattle.laws.proofs.Sets.{by-cases, and-out, is-false, clash, mem-append, mem-one, or-out, or-right, or-left, eqb-same, Unique, unique-append, pigeonhole}
 use Rattle.extension_rules.specs.Der.{identifier-content}
-use Rattle.extension_rules.specs.Register.{most-entries, most-octets, any-octets, count, entry-place, octets-at, entry, position, upto, entries, alike, below, all-upto, good-entry, good-place, good-register}
+use Rattle.extension_rules.specs.Register.{most-entries, most-octets, any-octets, count, entry-place, octets-at, entry, position, upto, alike, below, all-upto, good-entry, good-place, good-register}
 use Rattle.octets.proofs.Order.{alike-equal, below-irreflexive, below-trans}
-use Rattle.extension_laws.proofs.Upto.{split-last, length-upto, getD-upto, all-at, mem-upto}
+use Rattle.extension_laws.proofs.Upto.{split-last, length-upto, all-at, mem-upto}
 
 -- an identifier that may stand in a register
 pub record Fit (id : List ℕ) : Type 0 where

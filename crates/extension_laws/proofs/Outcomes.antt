@@ -1,8 +1,7 @@
 -- Laws of outcomes: a test that holds or fails, and what follows a fault or a value.
 use Prim.Native.Nat.{ℕ}
 use mathlib.Core.Bool.{Bool, true, false}
-use mathlib.Core.Path.{_≡_, refl, ap}
-use Rattle.rules.specs.Sets.{pick}
+use mathlib.Core.Path.{_≡_, ap}
 use Rattle.laws.proofs.Sets.{pick-yes, pick-no}
 use Rattle.extension_rules.specs.Outcomes.{Outcome, fault, fine, _then_, when}
 

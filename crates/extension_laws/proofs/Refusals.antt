@@ -2,21 +2,19 @@
 use Prim.Native.Nat.{ℕ, zero, suc, _-_}
 use mathlib.Core.Bool.{Bool, true, false, not, _&&_, _||_}
 use mathlib.Core.Logic.{inl, inr}
-use mathlib.Core.List.{List, [], _∷_, _++_}
+use mathlib.Core.List.{List, [], _∷_}
 use mathlib.Core.Path.{_≡_, refl, sym, ap, _∙_}
-use native.Mathlib.Omega.{arith}
 use lib.Dec.{eqb, ltb}
 use lib.ListN.{length, take, drop, getD}
 use Rattle.rules.specs.Limits as Limits
 use Rattle.rules.specs.Numbers as Numbers
-use Rattle.rules.specs.Paths.{any}
 use Rattle.rules.specs.Sets.{pick, _∈_, empty}
 use Rattle.laws.proofs.Sets.{by-cases, or-right, pick-yes, pick-no}
 use Rattle.record.specs.Record.{packed-certificate}
 use Rattle.extension_rules.specs.Outcomes.{Outcome, fault, fine, _then_, when}
-use Rattle.extension_rules.specs.Der.{Part, sequence, object-identifier, number-from, content-of, long-form, measured, value-of, untagged, any-value, identifier-content, identifier, integer-content, integer, skip-value}
+use Rattle.extension_rules.specs.Der.{sequence, object-identifier, number-from, content-of, long-form, measured, value-of, untagged, any-value, identifier-content, identifier, integer-content, integer}
 use Rattle.extension_rules.specs.Register.{most-octets, most-entries, any-octets, alike, place-of, numbered, register-bytes, good-register, entries}
-use Rattle.extension_rules.specs.Extensions.{refusals, Read, Gathered, Constraints, SkipRead, Extended, ended, elements, list-of, qualifier, qualifiers, policy, mapping, certificate-policies, policy-mappings, optional-skip, policy-constraints, inhibit-any-policy, extended, answered, read-extensions}
+use Rattle.extension_rules.specs.Extensions.{refusals, Read, Gathered, Extended, ended, elements, list-of, qualifier, qualifiers, policy, mapping, certificate-policies, policy-mappings, optional-skip, policy-constraints, inhibit-any-policy, extended, answered, read-extensions}
 use Rattle.extension_rules.specs.Face.{certificate-places, Lent, ExtensionNumber, lent-read, extensions-read}
 
 -- an outcome whose fault, if it has one, is one of these numbers

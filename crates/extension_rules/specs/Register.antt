@@ -1,14 +1,14 @@
 -- The register: the policy identifiers that have a number, in bytes at fixed places.
 use Prim.Native.Nat.{ℕ, zero, suc, _+_, _*_, _-_, _/_, _%_}
 use mathlib.Core.Bool.{Bool, true, false, not, _&&_, _||_}
-use mathlib.Core.List.{List, [], _∷_, _++_, map}
+use mathlib.Core.List.{List, [], _∷_, _++_}
 use lib.Dec.{eqb, ltb}
 use lib.ListN.{length, take, drop, getD}
 use lib.Seq.{sets}
 use Rattle.rules.specs.Numbers as Numbers
 use Rattle.rules.specs.Paths.{any}
 use Rattle.rules.specs.Sets.{pick, select}
-use Rattle.extension_rules.specs.Outcomes.{Outcome, fault, fine, when}
+use Rattle.extension_rules.specs.Outcomes.{Outcome, fine, when}
 use Rattle.extension_rules.specs.Der.{identifier-content}
 
 -- "It holds up to 512 others"

@@ -6,13 +6,11 @@ use mathlib.Core.Path.{_≡_, refl, sym, ap, ap₂, _∙_}
 use native.Mathlib.Numerals.{add-one}
 use native.Mathlib.Omega.{arith}
 use lib.ListN.{length, take, drop, getD, set, replicate, length-append, length-replicate, replicate-append-replicate}
-use lib.Seq.{sets, sets-eq, set-at, drop-cons, drop-append-le, take-all}
+use lib.Seq.{sets-eq, set-at, drop-cons, drop-append-le}
 use Rattle.rules.specs.Limits as Limits
-use Rattle.rules.specs.Layout.{pairs}
-use Rattle.rules.specs.Paths.{Certificate}
 use Rattle.record.specs.Record.{flag-number, skip-number, certificate-head, issued, subjected, packed-certificate}
 use Rattle.record.specs.Unpacked.{skip-of}
-use Rattle.record.specs.Puts.{Puts, Room}
+use Rattle.record.specs.Puts.{Puts}
 use Rattle.record.proofs.Unpacked.{length-pairs, pairs-issuers, pairs-subjects}
 use Rattle.extension_rules.specs.Extensions.{cleared}
 use Rattle.extension_rules.specs.Face.{certificate-places, padded}

@@ -2,14 +2,14 @@
 use Prim.Native.Nat.{ℕ, suc}
 use mathlib.Core.Bool.{Bool}
 use mathlib.Core.List.{List, []}
-use mathlib.Core.Path.{_≡_, refl, sym, ap, ap₂, _∙_}
-use lib.ListN.{length, take, drop, getD}
+use mathlib.Core.Path.{_≡_, sym, ap, ap₂, _∙_}
+use lib.ListN.{take, drop, getD}
 use Rattle.rules.specs.declared.Skip.{Skip}
 use Rattle.rules.specs.Layout.{pairs}
 use Rattle.rules.specs.Limits as Limits
-use Rattle.extension_rules.specs.Outcomes.{Outcome, fault, fine}
+use Rattle.extension_rules.specs.Outcomes.{fault, fine}
 use Rattle.extension_rules.specs.Register.{entries}
-use Rattle.extension_rules.specs.Extensions.{Gathered, Constraints, Extended, certificate-policies, policy-mappings, policy-constraints, inhibit-any-policy, extended}
+use Rattle.extension_rules.specs.Extensions.{Gathered, Constraints, certificate-policies, policy-mappings, policy-constraints, inhibit-any-policy, extended}
 use Rattle.extension_laws.proofs.Outcomes.{then-fine, then-fault}
 use Rattle.identify.specs.Known.{fresh-count, known}
 use Rattle.identify.proofs.Fresh.{known-none}

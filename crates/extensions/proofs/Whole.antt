@@ -1,24 +1,23 @@
 -- The whole answer: too short a slice, a refusal, or a certificate with its register.
 use Prim.Native.Nat.{ℕ, _*_, _≤_, _<_}
-use mathlib.Core.Bool.{Bool, true, false, _||_}
+use mathlib.Core.Bool.{Bool, true, _||_}
 use mathlib.Core.List.{List, _++_}
 use mathlib.Core.Path.{_≡_, refl, sym, ap, ap₂, subst, _∙_}
 use native.Mathlib.Omega.{arith}
-use lib.Dec.{eqb, ltb}
+use lib.Dec.{ltb}
 use lib.ListN.{length, drop, replicate}
 use lib.Seq.{drop-at}
 use borrow.Author.Tests.{lt-ltb, le-ltb, eq-eqb, ne-eqb}
 use Rattle.rules.specs.Numbers as Numbers
 use Rattle.rules.specs.Paths.{Certificate}
-use Rattle.rules.specs.Sets.{pick}
 use Rattle.laws.proofs.Sets.{pick-yes, pick-no, or-left, or-right}
 use Rattle.record.specs.Record.{packed-certificate}
 use Rattle.record.specs.Puts.{Puts}
-use Rattle.extension_rules.specs.Outcomes.{Outcome, fault, fine, when}
+use Rattle.extension_rules.specs.Outcomes.{fault, fine, when}
 use Rattle.extension_rules.specs.Register.{register-bytes, count, entries, good-register, enter-all}
-use Rattle.extension_rules.specs.Extensions.{Extended, Read, cleared, extended, answered, read-extensions}
+use Rattle.extension_rules.specs.Extensions.{extended, answered, read-extensions}
 use Rattle.extension_rules.specs.Face.{certificate-places, Lent, ExtensionNumber, padded, lent-read, extensions-read}
-use Rattle.extension_laws.proofs.Outcomes.{when-yes, when-no}
+use Rattle.extension_laws.proofs.Outcomes.{when-yes}
 use Rattle.extension_laws.proofs.Refusals.{demanded}
 use Rattle.identify.specs.Known.{fresh, known}
 use Rattle.identify.proofs.Fresh.{entries-length}

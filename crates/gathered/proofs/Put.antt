@@ -1,19 +1,17 @@
 -- One policy more, and one pair more; an identifier's number as the code says it.
 use Prim.Native.Nat.{ℕ, suc, _+_, _-_, _≤_, _<_}
-use mathlib.Core.Bool.{true, false, not}
+use mathlib.Core.Bool.{not}
 use mathlib.Core.List.{List, [], _∷_, _++_}
 use mathlib.Core.Path.{_≡_, refl, sym, ap, ap₂, _∙_}
 use native.Mathlib.Omega.{arith}
-use lib.Dec.{eqb, ltb}
 use lib.ListN.{length, take, drop, getD, set, length-set, length-take, length-drop}
 use lib.Seq.{getD-set-same, drop-set-lt, drop-set-add, take-suc-set, take-set-le}
 use borrow.Author.Tests.{lt-ltb, le-ltb, eq-eqb, ne-eqb}
 use Rattle.rules.specs.Limits as Limits
 use Rattle.rules.specs.Numbers as Numbers
-use Rattle.rules.specs.Sets.{pick}
-use Rattle.laws.proofs.Sets.{pick-yes, pick-no, not-in}
-use Rattle.extension_rules.specs.Outcomes.{Outcome, fault, fine, when}
-use Rattle.extension_rules.specs.Register.{most-octets, Numbered, numbered}
+use Rattle.laws.proofs.Sets.{pick-yes, pick-no}
+use Rattle.extension_rules.specs.Outcomes.{fault, fine}
+use Rattle.extension_rules.specs.Register.{most-octets, numbered}
 use Rattle.extension_laws.proofs.Outcomes.{when-no}
 use Rattle.gathered.specs.Lists.{numbered-as, answer, listed, issuers, subjects}
 

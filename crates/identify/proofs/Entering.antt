@@ -1,14 +1,14 @@
 -- The scratch list entered in the register, one after the other: what stands after j of them, and one more.
 use Prim.Native.Nat.{ℕ, suc, _+_, _≤_, _<_}
-use mathlib.Core.Bool.{true, false}
+use mathlib.Core.Bool.{false}
 use mathlib.Core.List.{List, [], _∷_, _++_}
 use mathlib.Core.Path.{_≡_, refl, sym, ap, ap₂, subst, _∙_}
 use native.Mathlib.Numerals.{add-one}
 use native.Mathlib.Omega.{arith}
-use lib.ListN.{length, take, drop, getD, length-append, List·getD-append, drop-of-length-le}
+use lib.ListN.{length, take, drop, getD, drop-of-length-le}
 use lib.Seq.{drop-cons, take-suc, take-append-seam, getD-take, length-take-le, getD-append-add}
 use Rattle.laws.proofs.Sets.{is-false, clash}
-use Rattle.extension_rules.specs.Register.{most-entries, count, octets-at, entry, entries, alike, place-of, enter, enter-all}
+use Rattle.extension_rules.specs.Register.{most-entries, count, octets-at, entry, entries, alike, enter, enter-all}
 use Rattle.octets.proofs.Order.{alike-sym}
 use Rattle.register.specs.Whole.{Whole}
 use Rattle.extension_laws.proofs.Good.{Fit}

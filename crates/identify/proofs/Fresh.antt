@@ -1,29 +1,26 @@
 -- The identifiers known: found in the register or in the scratch list, and one more.
-use Prim.Native.Nat.{ℕ, zero, suc, _+_, _*_, _-_, _≤_, _<_}
-use mathlib.Core.Bool.{Bool, true, false, not}
+use Prim.Native.Nat.{ℕ, suc, _+_, _-_, _≤_, _<_}
+use mathlib.Core.Bool.{true, false}
 use mathlib.Core.List.{List, [], _∷_, _++_, append-assoc, append-nil}
 use mathlib.Core.Logic.{⊎-elim}
 use mathlib.Core.Path.{_≡_, refl, sym, ap, ap₂, subst, _∙_}
-use native.Mathlib.Numerals.{add-one}
 use native.Mathlib.Omega.{arith}
 use lib.Dec.{eqb, ltb}
-use lib.ListN.{length, take, drop, getD, set, length-append, length-set, List·getD-append}
-use lib.Seq.{sets, length-sets, getD-set-same, getD-set-other, getD-append-seam, drop-cons, take-suc, take-length, take-append-le, getD-take, length-take-le, getD-drop, getD-append-add, drop-append-seam}
+use lib.ListN.{length, getD, length-append, length-set, List·getD-append}
+use lib.Seq.{sets, length-sets, getD-set-same, getD-set-other, getD-append-seam}
 use borrow.Author.Tests.{lt-ltb, le-ltb, ne-eqb, eq-eqb}
 use Rattle.rules.specs.Numbers as Numbers
 use Rattle.rules.specs.Paths.{any}
 use Rattle.rules.specs.Sets.{pick}
 use Rattle.laws.proofs.Sets.{is-false, clash, not-in, pick-yes, pick-no}
-use Rattle.extension_rules.specs.Der.{identifier-content}
 use Rattle.extension_rules.specs.Outcomes.{Outcome, fault, fine, when}
-use Rattle.extension_rules.specs.Register.{most-entries, most-octets, entry-bytes, any-octets, count, octets-at, entry, upto, entries, alike, good-register, place-of, Numbered, numbered, enter, enter-all}
-use Rattle.octets.proofs.Order.{alike-sym, alike-equal}
+use Rattle.extension_rules.specs.Register.{most-entries, most-octets, any-octets, count, octets-at, entry, upto, entries, alike, good-register, place-of, Numbered, numbered}
+use Rattle.octets.proofs.Order.{alike-sym}
 use Rattle.register.specs.Whole.{Whole}
 use Rattle.extension_laws.proofs.Outcomes.{when-yes, when-no}
-use Rattle.extension_laws.proofs.Upto.{split-last, length-upto, getD-upto, upto-same, place-most, place-at, place-none, place-before, place-append-left, place-append-right}
+use Rattle.extension_laws.proofs.Upto.{split-last, length-upto, getD-upto, upto-same, place-most, place-before, place-append-left, place-append-right}
 use Rattle.extension_laws.proofs.Good.{Fit, good-few, good-fit, good-apart}
-use Rattle.extension_laws.proofs.Stores.{kept-before, kept-after, stored, octets-same, octets-are}
-use Rattle.extension_laws.proofs.Enter.{enter-length, enter-count, enter-good, enter-entries, rank-inside}
+use Rattle.extension_laws.proofs.Stores.{kept-before, stored, octets-same, octets-are}
 use Rattle.identify.specs.Known.{fresh-count, fresh-place, fresh-bytes, most-fresh, fresh, known, added, Listed, Sound, Holds}
 
 -- lengths

@@ -1,5 +1,5 @@
 -- The order of identifiers: octet by octet from a place on, and that it is a strict order in which two that are not alike are comparable.
-use Prim.Native.Nat.{ℕ, zero, suc, _+_, _≤_, _<_}
+use Prim.Native.Nat.{ℕ, _+_, _≤_, _<_}
 use mathlib.Core.Bool.{Bool, true, false, _&&_, _||_, true≢false}
 use mathlib.Core.List.{List, [], _∷_}
 use mathlib.Core.Logic.{_⊎_, ⊎-elim}
@@ -10,7 +10,7 @@ use lib.Dec.{eqb, ltb}
 use lib.ListN.{length, drop, getD, drop-of-length-le}
 use lib.Seq.{drop-cons}
 use borrow.Author.Tests.{eqb-true, eqb-false, eq-eqb, ne-eqb, ltb-true, ltb-false, lt-ltb, le-ltb}
-use Rattle.laws.proofs.Sets.{by-cases, and-in, and-out, or-left, or-right, or-out, or-none, is-false, clash, eqb-same}
+use Rattle.laws.proofs.Sets.{by-cases, and-in, and-out, or-left, or-right, or-out, or-none, is-false, eqb-same}
 use Rattle.extension_rules.specs.Register.{alike, below}
 
 -- from place i on, where both lists go on

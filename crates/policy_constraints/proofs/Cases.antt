@@ -1,21 +1,20 @@
 -- Skip values and the two extensions that have them, case by case.
-use Prim.Native.Nat.{ℕ, zero, suc, _-_, _≤_, _<_}
-use mathlib.Core.Bool.{Bool, true, false, not}
+use Prim.Native.Nat.{ℕ, suc, _-_, _<_}
+use mathlib.Core.Bool.{true, false}
 use mathlib.Core.List.{List, [], _∷_}
-use mathlib.Core.Path.{_≡_, refl, sym, ap, ap₂, _∙_}
+use mathlib.Core.Path.{_≡_, refl, sym, ap, _∙_}
 use native.Mathlib.Omega.{arith}
-use lib.Dec.{eqb, ltb}
+use lib.Dec.{ltb}
 use lib.ListN.{length, take, drop, getD}
 use borrow.Author.Tests.{eq-eqb, ne-eqb, ltb-true, ltb-false}
-use Rattle.rules.specs.declared.Skip.{Skip}
 use Rattle.rules.specs.declared.Skip.the-variants.{Absent, Certificates}
 use Rattle.rules.specs.Numbers as Numbers
 use Rattle.rules.specs.Sets.{pick}
 use Rattle.laws.proofs.Sets.{by-cases, pick-yes, pick-no}
 use Rattle.record.specs.Unpacked.{skip-of}
-use Rattle.extension_rules.specs.Outcomes.{Outcome, fault, fine, _then_}
+use Rattle.extension_rules.specs.Outcomes.{fault, fine, _then_}
 use Rattle.extension_rules.specs.Der.{Part, sequence, integer-number, tag-0, tag-1, value-of, integer-content, integer, skip-value}
-use Rattle.extension_rules.specs.Extensions.{ended, SkipRead, Constraints, optional-skip, policy-constraints, inhibit-any-policy}
+use Rattle.extension_rules.specs.Extensions.{ended, SkipRead, optional-skip, policy-constraints, inhibit-any-policy}
 use Rattle.extension_laws.proofs.Outcomes.{when-yes, when-no, then-fine, then-fault}
 use Rattle.der.specs.declared.Header.{Header}
 use Rattle.der.specs.Headers.{Headed}

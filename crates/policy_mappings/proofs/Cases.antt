@@ -3,12 +3,11 @@ use Prim.Native.Nat.{ℕ, _≤_, _<_}
 use mathlib.Core.List.{List, [], _∷_, _++_}
 use mathlib.Core.Path.{_≡_, refl, _∙_}
 use native.Mathlib.Omega.{arith}
-use lib.Dec.{ltb}
 use lib.ListN.{length}
 use borrow.Author.Tests.{lt-ltb, le-ltb}
 use Rattle.rules.specs.Limits as Limits
 use Rattle.rules.specs.Numbers as Numbers
-use Rattle.extension_rules.specs.Outcomes.{Outcome, fault, fine}
+use Rattle.extension_rules.specs.Outcomes.{fault, fine}
 use Rattle.extension_rules.specs.Der.{Part, identifier}
 use Rattle.extension_rules.specs.Register.{Numbered, numbered}
 use Rattle.extension_rules.specs.Extensions.{Gathered, ended, list-of, mapping, policy-mappings}

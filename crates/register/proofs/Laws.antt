@@ -11,7 +11,7 @@ use borrow.Author.Tests.{lt-ltb, le-ltb, ltb-true, ltb-false}
 use Rattle.laws.proofs.Sets.{by-cases, clash, and-in}
 use Rattle.extension_rules.specs.Der.{identifier-content}
 use Rattle.extension_rules.specs.Register.{most-entries, most-octets, order-start, register-bytes, any-octets, two-at, count, octets-at, entry-place, entry, position, alike, below, all-upto, good-entry, good-place, good-register}
-use Rattle.extension_laws.proofs.Upto.{all-at, all-in}
+use Rattle.extension_laws.proofs.Upto.{all-at}
 
 -- the parts
 

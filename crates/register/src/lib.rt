@@ -6,9 +6,9 @@ use octets::below;
 use octets::is_any;
 ghost use mathlib.Core.Bool.{true};
 ghost use mathlib.Core.Path.{_≡_};
-ghost use Prim.Native.Nat.{suc, _+_, _≤_, _<_};
+ghost use Prim.Native.Nat.{_+_, _≤_, _<_};
 ghost use lib.ListN.{length, getD};
-ghost use Rattle.extension_rules.specs.Register.{register-bytes, most-entries, most-octets, two-at, count, octets-at, entry-place, entry, position, entries, all-upto, good-entry, good-place, good-register, place-of, rank};
+ghost use Rattle.extension_rules.specs.Register.{register-bytes, most-entries, two-at, count, octets-at, entry-place, entry, position, entries, all-upto, good-entry, good-place, good-register, place-of, rank};
 ghost use Rattle.register.specs.Whole.{Whole};
 
 // The most entries, and the most octets of one.

@@ -1,6 +1,6 @@
 -- `certificate_policies::is_listed` meets its contract.
-use mathlib.Core.Path.{_≡_, ap, ap₂, _∙_}
-use lib.ListN.{length, take, drop}
+use mathlib.Core.Path.{ap₂, _∙_}
+use lib.ListN.{take}
 use Rattle.rules.specs.Sets.{_∈_}
 use Rattle.der.proofs.Lists.{left-is}
 use Rattle.gathered.specs.Lists.{listed}

@@ -1,6 +1,4 @@
 -- `certificate_policies::read_policies` meets its contract. The invariant: what is left, after what was gathered, is read as the whole list is. What is left falls.
-use Prim.Native.Nat.{ℕ, _<_}
-use mathlib.Core.List.{List}
 use mathlib.Core.Path.{_≡_, refl, sym, _∙_}
 use native.Mathlib.Omega.{arith}
 use borrow.Author.Needs.{needs}

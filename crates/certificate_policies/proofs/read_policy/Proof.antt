@@ -1,21 +1,19 @@
 -- `certificate_policies::read_policy` meets its contract
 use Prim.Native.Nat.{_-_, _<_, _≤_}
-use mathlib.Core.Bool.{true, false}
-use mathlib.Core.List.{List, _∷_, []}
-use mathlib.Core.Path.{_≡_, refl, sym, ap, ap₂, subst, _∙_}
+use mathlib.Core.List.{[]}
+use mathlib.Core.Path.{_≡_, sym, ap₂, subst, _∙_}
 use native.Mathlib.Omega.{arith}
-use lib.ListN.{length, drop, getD}
+use lib.ListN.{length, drop}
 use Rattle.rules.specs.Limits as Limits
 use Rattle.rules.specs.Numbers as Numbers
-use Rattle.rules.specs.Sets.{_∈_}
 use Rattle.extension_rules.specs.Outcomes.{fine, when}
-use Rattle.extension_rules.specs.Der.{Part, identifier}
-use Rattle.extension_rules.specs.Register.{Numbered, numbered}
-use Rattle.extension_rules.specs.Extensions.{Gathered, qualifiers, policy}
+use Rattle.extension_rules.specs.Der.{identifier}
+use Rattle.extension_rules.specs.Register.{numbered}
+use Rattle.extension_rules.specs.Extensions.{qualifiers, policy}
 use Rattle.extension_laws.proofs.Outcomes.{when-yes, when-no}
 use Rattle.der.proofs.Says.{identifier-none, identifier-some, identifier-valid}
 use Rattle.der.proofs.Lists.{left-is}
-use Rattle.identify.specs.Known.{fresh-count, known}
+use Rattle.identify.specs.Known.{known}
 use Rattle.gathered.specs.Lists.{listed, with-policies, Policies}
 use Rattle.gathered.proofs.Put.{as-number, as-refusal, answer-fine, answer-fault, listed-length}
 use Rattle.certificate_policies.proofs.Cases.{policy-bad, policy-over, policy-refused, policy-repeated, policy-after}

@@ -1,10 +1,10 @@
 -- `entering::enter` meets its contract: three runs of stores.
 use Prim.Native.Nat.{_+_, _*_, _≤_}
-use mathlib.Core.Path.{_≡_, sym, ap, subst, _∙_}
+use mathlib.Core.Path.{ap}
 use native.Mathlib.Omega.{arith}
 use lib.ListN.{length}
 use lib.Seq.{length-sets}
-use Rattle.extension_rules.specs.Register.{count, rank, order-start}
+use Rattle.extension_rules.specs.Register.{order-start}
 use Rattle.extension_laws.proofs.Search.{at-rank}
 use Rattle.entering.proofs.Runs.{entered}
 use borrow.Author.Needs.{needs}

@@ -1,7 +1,6 @@
 -- `entering::put_octets` meets its contract. The invariant: the octets before i are copied. What is left falls.
 use Prim.Native.Nat.{_+_, _≤_, _-_, _%_}
-use mathlib.Core.Path.{_≡_, refl, sym, ap, ap₂, _∙_}
-use mathlib.Core.List.{_∷_}
+use mathlib.Core.Path.{_≡_, refl, ap, ap₂, _∙_}
 use native.Mathlib.Numerals.{add-one}
 use native.Mathlib.Omega.{arith}
 use lib.ListN.{length, take, set, length-set}

@@ -1,15 +1,13 @@
 -- `extensions::read_extensions` meets its contract: 7, then 20, then the values' first refusal, or the certificate and the register.
 use Prim.Native.Nat.{_≤_}
 use mathlib.Core.Bool.{true}
-use mathlib.Core.Path.{_≡_, refl, sym, ap, _∙_}
+use mathlib.Core.Path.{_≡_, refl, sym, _∙_}
 use native.Mathlib.Omega.{arith}
-use lib.ListN.{length, length-append, length-replicate}
+use lib.ListN.{length}
 use borrow.Author.Tests.{not-true, not-false}
 use Rattle.extension_rules.specs.Register.{good-register}
 use Rattle.extension_rules.specs.Face.{certificate-places}
 use Rattle.extension_laws.proofs.Outcomes.{when-yes, when-no}
-use Rattle.gathered.proofs.Put.{answer-none, answer-fault}
-use Rattle.extensions.specs.Gathering.{gathered-as, certificate-of}
 use Rattle.extensions.proofs.Certificates.{certificate-size}
 use Rattle.extensions.proofs.Order.{gathered-refused, gathered-read}
 use Rattle.extensions.proofs.Whole.{both, register-short, certificate-short, refusal, reading, placed, placed-size}

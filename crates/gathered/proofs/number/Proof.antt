@@ -1,9 +1,6 @@
 -- `gathered::number` meets its contract: 15, then what `identify` says.
-use Prim.Native.Nat.{_<_}
-use mathlib.Core.Path.{_≡_, refl, sym, ap, ap₂, _∙_}
+use mathlib.Core.Path.{sym, _∙_}
 use native.Mathlib.Omega.{arith}
-use Rattle.extension_rules.specs.Outcomes.{fault}
-use Rattle.rules.specs.Numbers as Numbers
 use Rattle.laws.proofs.Sets.{pick-yes, pick-no}
 use borrow.Author.Tests.{eq-eqb, ne-eqb}
 use Rattle.gathered.proofs.Put.{as-number, as-refusal, numbered-long}

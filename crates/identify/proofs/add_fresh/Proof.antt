@@ -1,6 +1,6 @@
 -- `identify::add_fresh` meets its contract: its octets stored, and the count.
 use Prim.Native.Nat.{suc, _+_, _%_}
-use mathlib.Core.Path.{_≡_, sym, ap, ap₂, _∙_}
+use mathlib.Core.Path.{_≡_, ap, ap₂, _∙_}
 use mathlib.Core.List.{_∷_}
 use native.Mathlib.Omega.{arith}
 use lib.ListN.{length, set}

@@ -1,8 +1,7 @@
 -- `identify::enter_fresh` meets its contract. The invariant: the identifiers before j are entered. What is left falls.
 use Prim.Native.Nat.{_≤_, _-_}
-use mathlib.Core.Path.{_≡_, refl, sym, ap, ap₂, subst, _∙_}
+use mathlib.Core.Path.{_≡_, sym, ap, subst, _∙_}
 use native.Mathlib.Omega.{arith}
-use lib.ListN.{length}
 use Rattle.identify.specs.Known.{fresh-count}
 use Rattle.extension_rules.specs.Register.{enter}
 use Rattle.entering.specs.Enterable.{Enterable}

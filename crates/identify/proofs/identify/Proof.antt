@@ -1,12 +1,12 @@
 -- `identify::identify` meets its contract
-use Prim.Native.Nat.{_+_, _≤_, _<_}
+use Prim.Native.Nat.{_+_, _<_}
 use mathlib.Core.Bool.{false}
-use mathlib.Core.Path.{_≡_, refl, sym, ap, ap₂, subst, _∙_}
+use mathlib.Core.Path.{_≡_, sym, ap, ap₂, subst, _∙_}
 use native.Mathlib.Omega.{arith}
 use lib.ListN.{length}
 use Rattle.extension_rules.specs.Register.{most-entries, any-octets, count, entries, alike, place-of}
 use Rattle.extension_laws.proofs.Good.{Fit, good-few}
-use Rattle.identify.specs.Known.{fresh-count, known, fresh, Holds}
+use Rattle.identify.specs.Known.{fresh-count, known, Holds}
 use Rattle.identify.proofs.Fresh.{known-length, place-entry, place-fresh, says-any, says-found, says-full, says-new, one-count, one-known, holds-one, no-entry, no-fresh}
 use borrow.Author.Needs.{needs}
 use Rattle.identify.proofs.identify.Statement.{statement}

@@ -1,11 +1,8 @@
 -- `policy_constraints::optional_skip` meets its contract: absent, refused or read.
-use Prim.Native.Nat.{_<_}
-use mathlib.Core.Path.{_≡_, refl, sym, ap, ap₂, _∙_}
+use mathlib.Core.Path.{sym, ap, _∙_}
 use native.Mathlib.Omega.{arith}
 use borrow.Author.Needs.{needs}
-use lib.ListN.{length, drop}
-use Rattle.rules.specs.Numbers as Numbers
-use Rattle.record.specs.Unpacked.{skip-of}
+use lib.ListN.{drop}
 use Rattle.extension_rules.specs.Outcomes.{fine}
 use Rattle.extension_laws.proofs.Outcomes.{then-fine, then-fault}
 use Rattle.gathered.proofs.Put.{answer-fine, answer-fault}

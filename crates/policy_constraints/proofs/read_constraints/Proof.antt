@@ -1,18 +1,16 @@
 -- `policy_constraints::read_constraints` meets its contract: the header, [0], [1], and nothing after them.
-use Prim.Native.Nat.{_<_}
-use mathlib.Core.Path.{_≡_, refl, sym, ap, ap₂, _∙_}
+use mathlib.Core.Path.{_≡_, sym, ap, ap₂, _∙_}
 use native.Mathlib.Omega.{arith}
 use borrow.Author.Needs.{needs}
-use lib.ListN.{length, drop}
-use Rattle.rules.specs.Numbers as Numbers
+use lib.ListN.{drop}
 use Rattle.record.specs.Unpacked.{skip-of}
-use Rattle.extension_rules.specs.Outcomes.{fine, fault}
-use Rattle.extension_rules.specs.Der.{sequence, tag-0, tag-1, value-of}
-use Rattle.extension_rules.specs.Extensions.{SkipRead, optional-skip, policy-constraints}
+use Rattle.extension_rules.specs.Outcomes.{fine}
+use Rattle.extension_rules.specs.Der.{tag-0, tag-1}
+use Rattle.extension_rules.specs.Extensions.{optional-skip}
 use Rattle.extension_laws.proofs.Outcomes.{then-fine, then-fault}
 use Rattle.gathered.specs.Lists.{answer}
 use Rattle.gathered.proofs.Put.{answer-fine, answer-none, answer-fault}
-use Rattle.der.proofs.Says.{part-of, header-none, header-some}
+use Rattle.der.proofs.Says.{header-none, header-some}
 use Rattle.der.proofs.Lists.{left, left-is, content, ended-over, ended-there}
 use Rattle.policy_constraints.specs.Skips.{constrained}
 use Rattle.policy_constraints.proofs.Cases.{absent-there, constraints-none, constraints-bad, constraints-first, constraints-second, constraints-end, constrained-refused}

@@ -1,9 +1,7 @@
 -- `policy_constraints::read_inhibit_any` meets its contract.
-use Prim.Native.Nat.{_<_}
-use mathlib.Core.Path.{_≡_, refl, sym, ap, ap₂, _∙_}
+use mathlib.Core.Path.{sym, ap, _∙_}
 use native.Mathlib.Omega.{arith}
 use borrow.Author.Needs.{needs}
-use lib.ListN.{length, drop}
 use Rattle.rules.specs.Numbers as Numbers
 use Rattle.record.specs.Unpacked.{skip-of}
 use Rattle.extension_rules.specs.Outcomes.{fine}

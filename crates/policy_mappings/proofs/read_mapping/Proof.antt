@@ -1,9 +1,8 @@
 -- `policy_mappings::read_mapping` meets its contract: the refusals of its issuer in their order, then the subject.
-use Prim.Native.Nat.{ℕ, _-_, _<_, _≤_}
-use mathlib.Core.List.{List}
+use Prim.Native.Nat.{_-_, _<_, _≤_}
 use mathlib.Core.Path.{_≡_, sym, ap, subst, _∙_}
 use native.Mathlib.Omega.{arith}
-use lib.ListN.{length, drop, getD}
+use lib.ListN.{length, drop}
 use Rattle.rules.specs.Limits as Limits
 use Rattle.rules.specs.Numbers as Numbers
 use Rattle.extension_rules.specs.Outcomes.{fine}
@@ -14,7 +13,7 @@ use Rattle.der.proofs.Lists.{left-is}
 use Rattle.identify.specs.Known.{known}
 use Rattle.gathered.specs.Lists.{issuers, with-pairs}
 use Rattle.gathered.proofs.Put.{as-number, as-refusal, answer-fault, issuers-length}
-use Rattle.policy_mappings.specs.Subject.{subject-read, Half}
+use Rattle.policy_mappings.specs.Subject.{subject-read}
 use Rattle.policy_mappings.proofs.Cases.{mapping-bad, mapping-over, mapping-refused, mapping-after}
 use borrow.Author.Needs.{needs}
 use Rattle.policy_mappings.proofs.read_mapping.Statement.{statement}

@@ -1,5 +1,5 @@
 -- `policy_mappings::read_mappings` meets its contract. The invariant: what is left, after what was gathered, is read as the whole list is. What is left falls.
-use Prim.Native.Nat.{ℕ, _<_}
+use Prim.Native.Nat.{ℕ}
 use mathlib.Core.List.{List}
 use mathlib.Core.Path.{_≡_, refl, sym, _∙_}
 use native.Mathlib.Omega.{arith}

@@ -1,19 +1,16 @@
 -- `policy_mappings::read_subject` meets its contract: the refusals of its identifier in their order, then what follows it.
-use Prim.Native.Nat.{ℕ, _+_, _*_, _-_, _<_, _≤_}
-use mathlib.Core.Bool.{true, false}
-use mathlib.Core.List.{List, _∷_, [], _++_}
-use mathlib.Core.Path.{_≡_, refl, sym, ap, ap₂, subst, _∙_}
+use Prim.Native.Nat.{_-_}
+use mathlib.Core.Path.{_≡_, sym, ap₂, _∙_}
 use native.Mathlib.Omega.{arith}
-use lib.ListN.{length, drop, getD}
-use Rattle.rules.specs.Limits as Limits
+use lib.ListN.{drop}
 use Rattle.rules.specs.Numbers as Numbers
 use Rattle.extension_rules.specs.Outcomes.{fine}
 use Rattle.extension_rules.specs.Der.{identifier}
 use Rattle.extension_rules.specs.Register.{numbered}
 use Rattle.der.proofs.Says.{identifier-none, identifier-some, identifier-valid}
-use Rattle.der.proofs.Lists.{left-is, ended-over, ended-there}
+use Rattle.der.proofs.Lists.{ended-over, ended-there}
 use Rattle.identify.specs.Known.{known}
-use Rattle.gathered.specs.Lists.{issuers, subjects, with-pairs, Pairs}
+use Rattle.gathered.specs.Lists.{issuers, subjects}
 use Rattle.gathered.proofs.Put.{as-number, as-refusal, answer-fine, answer-fault}
 use Rattle.policy_mappings.proofs.Cases.{subject-bad, subject-refused, subject-after}
 use borrow.Author.Needs.{needs}

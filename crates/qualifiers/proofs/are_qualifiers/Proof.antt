@@ -1,7 +1,6 @@
 -- `qualifiers::are_qualifiers` meets its contract. The invariant: what is left is read as the whole list is. What is left falls.
-use Prim.Native.Nat.{_<_}
 use mathlib.Core.Bool.{true}
-use mathlib.Core.Path.{_≡_, refl, sym, ap, ap₂, subst, _∙_}
+use mathlib.Core.Path.{_≡_, refl, sym, _∙_}
 use native.Mathlib.Omega.{arith}
 use borrow.Author.Needs.{needs}
 use borrow.Author.Tests.{not-true, not-false}

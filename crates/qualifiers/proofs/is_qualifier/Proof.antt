@@ -1,12 +1,11 @@
 -- `qualifiers::is_qualifier` meets its contract: an identifier, then one value, then nothing.
-use Prim.Native.Nat.{_-_, _<_}
-use mathlib.Core.Path.{_≡_, refl, sym, ap, ap₂, subst, _∙_}
+use Prim.Native.Nat.{_-_}
+use mathlib.Core.Path.{refl, sym, ap, _∙_}
 use native.Mathlib.Omega.{arith}
-use lib.ListN.{length, drop}
 use Rattle.rules.specs.Numbers as Numbers
 use Rattle.extension_rules.specs.Der.{any-value}
 use Rattle.extension_laws.proofs.Outcomes.{when-no, then-fine, then-fault}
-use Rattle.der.proofs.Says.{part-of, header-none, header-some, identifier-none, identifier-some}
+use Rattle.der.proofs.Says.{header-none, header-some, identifier-none, identifier-some}
 use Rattle.der.proofs.Lists.{left-is, ended-at}
 use Rattle.qualifiers.proofs.Cases.{qualifier-fault, qualifier-after}
 use borrow.Author.Needs.{needs}

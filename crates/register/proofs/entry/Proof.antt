@@ -1,6 +1,5 @@
 -- `register::entry` meets its contract.
-use mathlib.Core.Path.{_≡_, refl, sym, ap, _∙_}
-use native.Mathlib.Omega.{arith}
+use mathlib.Core.Path.{_∙_}
 use Rattle.register.proofs.Laws.{entry-is}
 use borrow.Author.Needs.{needs}
 use Rattle.register.proofs.entry.Statement.{statement}

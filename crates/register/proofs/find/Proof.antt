@@ -1,8 +1,8 @@
 -- `register::find` meets its contract: by the rank, in the order.
 use Prim.Native.Nat.{_<_}
-use mathlib.Core.Path.{_≡_, sym, ap, subst, _∙_}
+use mathlib.Core.Path.{sym, ap, subst, _∙_}
 use native.Mathlib.Omega.{arith}
-use Rattle.extension_rules.specs.Register.{count, entry, position, alike}
+use Rattle.extension_rules.specs.Register.{alike}
 use Rattle.extension_laws.proofs.Good.{good-few}
 use Rattle.extension_laws.proofs.Search.{found, not-found}
 use borrow.Author.Needs.{needs}

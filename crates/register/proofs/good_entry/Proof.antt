@@ -1,5 +1,5 @@
 -- `register::good_entry` meets its contract
-use mathlib.Core.Path.{_≡_, refl, sym, ap, _∙_}
+use mathlib.Core.Path.{sym, ap, _∙_}
 use native.Mathlib.Omega.{arith}
 use mathlib.Core.Bool.{not}
 use Rattle.extension_rules.specs.Der.{identifier-content}

@@ -1,7 +1,7 @@
 -- `register::is_register` meets its contract: the count, each entry, and the order.
 use Prim.Native.Nat.{_<_}
 use mathlib.Core.Bool.{true, false}
-use mathlib.Core.Path.{_≡_, sym, subst, _∙_}
+use mathlib.Core.Path.{sym, subst, _∙_}
 use native.Mathlib.Omega.{arith}
 use Rattle.extension_rules.specs.Register.{most-entries}
 use Rattle.register.proofs.Laws.{register-over, register-is}

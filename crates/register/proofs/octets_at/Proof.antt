@@ -1,6 +1,4 @@
 -- `register::octets_at` meets its contract.
-use mathlib.Core.Path.{_≡_, refl, sym, ap, _∙_}
-use native.Mathlib.Omega.{arith}
 use Rattle.register.proofs.Laws.{octets-are}
 use borrow.Author.Needs.{needs}
 use Rattle.register.proofs.octets_at.Statement.{statement}

@@ -1,6 +1,6 @@
 -- `register::ordered` meets its contract
 use Prim.Native.Nat.{_<_}
-use mathlib.Core.Path.{_≡_, sym, ap, subst, _∙_}
+use mathlib.Core.Path.{sym, ap, subst, _∙_}
 use native.Mathlib.Omega.{arith}
 use Rattle.extension_rules.specs.Register.{count, entry}
 use Rattle.extension_laws.proofs.Good.{good-few, good-length, good-position}

@@ -1,6 +1,6 @@
 -- `register::rank` meets its contract
-use Prim.Native.Nat.{_≤_, _-_}
-use mathlib.Core.Path.{_≡_, refl, sym, ap, _∙_}
+use Prim.Native.Nat.{_-_}
+use mathlib.Core.Path.{sym, ap, _∙_}
 use native.Mathlib.Omega.{arith}
 use Rattle.extension_rules.specs.Register.{below}
 use Rattle.extension_laws.proofs.Search.{Bracket, bracket-start, bracket-up, bracket-down, bracket-end}

@@ -1,5 +1,5 @@
 -- `extensions::certificate::flag` meets its contract.
-use mathlib.Core.Path.{_≡_, sym, ap}
+use mathlib.Core.Path.{sym, ap}
 use Rattle.record.specs.Record.{flag-number}
 use Rattle.extensions.proofs.certificate.flag.Statement.{statement}
 use Rattle.extensions.proofs.certificate.flag.Tie as tie

@@ -1,13 +1,12 @@
 -- `extensions::certificate::put_certificate` meets its contract: the head and three copies, one after the other.
 use Prim.Native.Nat.{ℕ, suc}
 use mathlib.Core.List.{List, _++_}
-use mathlib.Core.Path.{_≡_, refl}
+use mathlib.Core.Path.{refl}
 use native.Mathlib.Omega.{arith}
 use borrow.Author.Needs.{needs}
-use lib.ListN.{length, take, getD}
+use lib.ListN.{take, getD}
 use Rattle.rules.specs.Limits as Limits
 use Rattle.record.specs.Record.{packed-certificate}
-use Rattle.record.specs.Puts.{Room}
 use Rattle.record.proofs.Put.{Leaves, leaves-all, leaves-room, leaves-next}
 use Rattle.der.proofs.Lists.{left, left-length}
 use Rattle.extensions.specs.Gathering.{head-numbers, certificate-of}

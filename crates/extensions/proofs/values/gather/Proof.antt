@@ -1,15 +1,14 @@
 -- `extensions::values::gather` meets its contract: each value after the one before it.
-use mathlib.Core.Bool.{Bool}
 use mathlib.Core.Path.{_≡_, refl, sym, ap, _∙_}
 use native.Mathlib.Omega.{arith}
 use borrow.Author.Needs.{needs}
 use Rattle.record.specs.Unpacked.{skip-of}
 use Rattle.extension_rules.specs.Outcomes.{fine}
 use Rattle.extension_rules.specs.Register.{entries}
-use Rattle.extension_rules.specs.Extensions.{certificate-policies, policy-mappings, policy-constraints, inhibit-any-policy}
+use Rattle.extension_rules.specs.Extensions.{certificate-policies, policy-mappings, policy-constraints}
 use Rattle.policy_constraints.proofs.Cases.{constrained-refused, constrained-read, inhibited-refused, inhibited-read}
 use Rattle.identify.proofs.Fresh.{holds-none}
-use Rattle.gathered.specs.Lists.{answer, listed, with-policies, with-pairs, Policies, Pairs}
+use Rattle.gathered.specs.Lists.{answer, listed, with-policies, with-pairs}
 use Rattle.gathered.proofs.Put.{answer-fine, answer-none, answer-fault}
 use Rattle.extensions.specs.Gathering.{gathered-as}
 use Rattle.extensions.proofs.Order.{nothing, nothing-yet, no-pairs, extended-first, extended-second, extended-third, extended-fourth, extended-all, gathered-refused}
