@@ -77,12 +77,6 @@ unfolding empty
 not-empty [] h = absurd (omega arith)
 not-empty (b ∷ s) h = refl
 
--- an outcome is a fault or fine
-
-pub by-outcome : {A : Type 0} {P : Type 0} (o : Outcome A) → ((n : ℕ) → o ≡ fault n → P) → ((a : A) → o ≡ fine a → P) → P
-by-outcome (fault n) f g = f n refl
-by-outcome (fine a) f g = g a refl
-
 module _ {A : Type 0} (read : A → List ℕ → Outcome A) where
   -- one step on what is not empty
   elements-suc : (n : ℕ) (a : A) (s : List ℕ) → empty s ≡ false → elements read (suc n) a s ≡ (value-of sequence s then λ p. read a (p .content) then λ g. elements read n g (p .rest))

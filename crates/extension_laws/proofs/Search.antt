@@ -24,10 +24,6 @@ pub bracket-start : (r id : List ℕ) (n : ℕ) → n ≡ count r → Bracket r 
 bracket-start r id n e =
     record { between = omega arith; inside = omega arith; before = λ k h. absurd (omega arith); after = λ k h l. absurd (omega arith) }
 
--- one that comes before another that comes before the identifier comes before it too
-below-earlier : (a b id : List ℕ) → below a b ≡ true → below b id ≡ true → below a id ≡ true
-below-earlier a b id e f = below-trans a b id e f
-
 -- one that comes after another that does not come before the identifier does not either
 not-below-later : (a b id : List ℕ) → below a b ≡ true → below a id ≡ false → below b id ≡ false
 not-below-later a b id e f = is-false (λ g. clash (below-trans a b id e g) f)
@@ -38,7 +34,7 @@ module _ {r id : List ℕ} {lo hi : ℕ} (good : good-register r ≡ true) (b : 
       record {
         between = omega arith;
         inside = b .inside;
-        before = λ k l. ⊎-elim (λ m. below-earlier _ _ _ (good-ascends r good k mid m (omega (arith, b .inside))) e) (λ q. ap (λ x. below (entry r (position r x)) id) q ∙ e) (split-last k mid (omega arith));
+        before = λ k l. ⊎-elim (λ m. below-trans _ _ _ (good-ascends r good k mid m (omega (arith, b .inside))) e) (λ q. ap (λ x. below (entry r (position r x)) id) q ∙ e) (split-last k mid (omega arith));
         after = b .after;
       }
 

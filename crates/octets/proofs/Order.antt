@@ -1,6 +1,6 @@
 -- The order of identifiers: octet by octet from a place on, and that it is a strict order in which two that are not alike are comparable.
 use Prim.Native.Nat.{ℕ, _+_, _≤_, _<_}
-use mathlib.Core.Bool.{Bool, true, false, _&&_, _||_, true≢false}
+use mathlib.Core.Bool.{true, false, _&&_, _||_, true≢false}
 use mathlib.Core.List.{List, [], _∷_}
 use mathlib.Core.Logic.{_⊎_, ⊎-elim}
 use mathlib.Core.Path.{_≡_, refl, sym, ap, ap₂, _∙_}
@@ -10,7 +10,7 @@ use lib.Dec.{eqb, ltb}
 use lib.ListN.{length, drop, getD, drop-of-length-le}
 use lib.Seq.{drop-cons}
 use borrow.Author.Tests.{eqb-true, eqb-false, eq-eqb, ne-eqb, ltb-true, ltb-false, lt-ltb, le-ltb}
-use Rattle.laws.proofs.Sets.{by-cases, and-in, and-out, or-left, or-right, or-out, or-none, is-false, eqb-same}
+use Rattle.laws.proofs.Sets.{by-cases, or-false, and-in, and-out, or-left, or-right, or-out, or-none, is-false, eqb-same}
 use Rattle.extension_rules.specs.Register.{alike, below}
 
 -- from place i on, where both lists go on
@@ -31,11 +31,7 @@ module _ (a b : List ℕ) (i : ℕ) where
   pub below-other : i < length a → i < length b → (getD a i 0 ≡ getD b i 0 → ⊥) → below (drop i a) (drop i b) ≡ ltb (getD a i 0) (getD b i 0)
   unfolding below
   below-other h k n =
-      ap₂ below (at-place a i h) (at-place b i k) ∙ ap (λ y. ltb (getD a i 0) (getD b i 0) || (y && below (from a i) (from b i))) (ne-eqb _ _ n) ∙ or-nothing _
-    where
-      or-nothing : (x : Bool) → (x || false) ≡ x
-      or-nothing true = refl
-      or-nothing false = refl
+      ap₂ below (at-place a i h) (at-place b i k) ∙ ap (λ y. ltb (getD a i 0) (getD b i 0) || (y && below (from a i) (from b i))) (ne-eqb _ _ n) ∙ or-false _
 
   pub below-over : i < length a → length b ≤ i → below (drop i a) (drop i b) ≡ false
   unfolding below
