@@ -1,21 +1,21 @@
 -- The numbers that reading a certificate's extensions can give: its refusals are 3, 5, 13, 14, 15 and 20.
-use Prim.Native.Nat.{ℕ, zero, suc, _-_}
+use Prim.Native.Nat.{ℕ, zero, suc, _*_, _-_, _%_}
 use mathlib.Core.Bool.{Bool, true, false, not, _&&_, _||_}
-use mathlib.Core.Logic.{inl, inr}
 use mathlib.Core.List.{List, [], _∷_}
 use mathlib.Core.Path.{_≡_, refl, sym, ap, _∙_}
+use native.Mathlib.Omega.{arith}
 use lib.Dec.{eqb, ltb}
 use lib.ListN.{length, take, drop, getD}
 use Rattle.rules.specs.Limits as Limits
 use Rattle.rules.specs.Numbers as Numbers
 use Rattle.rules.specs.Sets.{pick, _∈_, empty}
-use Rattle.laws.proofs.Sets.{by-cases, or-right, pick-yes, pick-no}
+use Rattle.laws.proofs.Sets.{by-cases, or-left, or-right, eqb-same, pick-yes, pick-no}
 use Rattle.record.specs.Record.{packed-certificate}
 use Rattle.extension_rules.specs.Outcomes.{Outcome, fault, fine, _then_, when}
 use Rattle.extension_rules.specs.Der.{sequence, object-identifier, number-from, content-of, long-form, measured, value-of, untagged, any-value, identifier-content, identifier, integer-content, integer}
 use Rattle.extension_rules.specs.Register.{most-octets, most-entries, any-octets, alike, place-of, numbered, register-bytes, good-register, entries}
 use Rattle.extension_rules.specs.Extensions.{refusals, Read, Gathered, Extended, ended, elements, list-of, qualifier, qualifiers, policy, mapping, certificate-policies, policy-mappings, optional-skip, policy-constraints, inhibit-any-policy, extended, answered, read-extensions}
-use Rattle.extension_rules.specs.Face.{certificate-places, Lent, ExtensionNumber, lent-read, extensions-read}
+use Rattle.extension_rules.specs.Face.{certificate-places, Lent, extension-number, lent-read, extensions-read}
 
 -- an outcome whose fault, if it has one, is one of these numbers
 abbrev Among : {A : Type 0} → Outcome A → Type 0
@@ -204,24 +204,32 @@ listed : (n : ℕ) → eqb n Numbers.valid ≡ false → n ∈ (Numbers.valid �
 unfolding _∈_
 listed n e h = or-right (eqb n Numbers.table-short) (sym (ap (λ b. b || n ∈ refusals) e) ∙ h)
 
-short-there : Numbers.table-short ∈ (Numbers.table-short ∷ refusals) ≡ true
-unfolding _∈_
+short-there : extension-number Numbers.table-short ≡ true
+unfolding extension-number refusals
 short-there = refl
 
-short-or : (b : Bool) (x y : Lent) → x .result ≡ Numbers.table-short → ExtensionNumber (y .result) → ExtensionNumber ((pick b x y) .result)
+short-or : (b : Bool) (x y : Lent) → x .result ≡ Numbers.table-short → extension-number (y .result) ≡ true → extension-number ((pick b x y) .result) ≡ true
 unfolding pick
-short-or true x y e h = inl (ap (λ n. n ∈ (Numbers.table-short ∷ refusals)) e ∙ short-there)
+short-or true x y e h = ap extension-number e ∙ short-there
 short-or false x y e h = h
 
+times-256 : (k : ℕ) → extension-number (256 * k) ≡ true
+unfolding extension-number
+times-256 k = let whole : 256 * k % 256 ≡ 0 = omega arith in or-right (256 * k ∈ (Numbers.table-short ∷ refusals)) (ap (λ n. eqb n 0) whole ∙ eqb-same 0)
+
+refusal-there : (n : ℕ) → n ∈ (Numbers.table-short ∷ refusals) ≡ true → extension-number n ≡ true
+unfolding extension-number
+refusal-there n h = or-left (eqb (n % 256) 0) h
+
 -- the function for C and Rust: 7, or one of the refusals, or 256 times a number of places
-lent-number : (x : Read) (lent : List ℕ) → x .number ∈ (Numbers.valid ∷ refusals) ≡ true → ExtensionNumber ((lent-read x lent) .result)
+lent-number : (x : Read) (lent : List ℕ) → x .number ∈ (Numbers.valid ∷ refusals) ≡ true → extension-number ((lent-read x lent) .result) ≡ true
 unfolding lent-read
 lent-number x lent h =
     by-cases (eqb (x .number) Numbers.valid)
-    (λ e. inr (length (packed-certificate (x .certificate)), pick-yes _ _ e))
-    (λ e. inl (ap (λ n. n ∈ (Numbers.table-short ∷ refusals)) (pick-no _ _ e) ∙ listed (x .number) e h))
+    (λ e. ap extension-number (pick-yes _ _ e) ∙ times-256 (length (packed-certificate (x .certificate))))
+    (λ e. ap extension-number (pick-no _ _ e) ∙ refusal-there (x .number) (listed (x .number) e h))
 
-pub demanded : (p m c a : List ℕ) (self : Bool) (r lent : List ℕ) → ExtensionNumber ((extensions-read p m c a self r lent) .result)
+pub demanded : (p m c a : List ℕ) (self : Bool) (r lent : List ℕ) → extension-number ((extensions-read p m c a self r lent) .result) ≡ true
 unfolding extensions-read
 demanded p m c a self r lent =
     short-or (ltb (length r) register-bytes || ltb (length lent) certificate-places) (record { result = Numbers.table-short; register = r; certificate = lent }) (lent-read (read-extensions p m c a self r) lent) refl (lent-number (read-extensions p m c a self r) lent (extension-numbers p m c a self r))

@@ -9,7 +9,7 @@ use Rattle.rules.proofs.Notation.{filled}
 use Rattle.record.specs.Record.{flag-number, skip-number}
 use Rattle.extension_rules.specs.Extensions.{refusals}
 use Rattle.extension_rules.specs.Face as Face
-use Rattle.extension_rules.specs.Face.{Lent, extensions-read}
+use Rattle.extension_rules.specs.Face.{Lent, extension-number, extensions-read}
 use Rattle.extension_rules.proofs.Notation.{sequence, policy, pair}
 
 pub record Figure : Type 0 where
@@ -32,6 +32,31 @@ pub known-refusals : refusals ≡ 3 ∷ 5 ∷ 13 ∷ 14 ∷ 15 ∷ 20 ∷ []
 unfolding refusals
 known-refusals = refl
 
+-- a number, and whether demand 1 has it
+pub record NumberRow : Type 0 where
+  pub number : ℕ
+  pub given : Bool
+
+numbered : Bool → ℕ → NumberRow
+numbered b n = record { number = n; given = b }
+
+unfoldable pub number-rows : List NumberRow
+unfolding numbered
+number-rows =
+    -- the refusals, and 7
+    map (numbered true) (3 ∷ 5 ∷ 7 ∷ 13 ∷ 14 ∷ 15 ∷ 20 ∷ [])
+    -- 256 times a number of places
+    ++ (map (numbered true) (1536 ∷ 13824 ∷ [])
+    -- the sheet's other numbers, and those of no request
+    ++ (map (numbered false) (1 ∷ 2 ∷ 4 ∷ 6 ∷ 8 ∷ 9 ∷ 10 ∷ 11 ∷ 12 ∷ 16 ∷ 19 ∷ 21 ∷ [])
+    -- a number of places that is not times 256, a refusal beside one
+    ++ map (numbered false) (54 ∷ 128 ∷ 255 ∷ 257 ∷ 1549 ∷ 1664 ∷ [])))
+
+-- Every number is one of demand 1's or is none, as expected.
+pub known-numbers-given : map (λ r. extension-number (r .number)) number-rows ≡ map (λ r. r .given) number-rows
+unfolding extension-number refusals number-rows
+known-numbers-given = refl
+
 -- the four values, the self-issued flag, the two slices at entry, and what is expected
 pub record Row : Type 0 where
   pub policies : List ℕ
@@ -48,6 +73,11 @@ row : List ℕ → List ℕ → List ℕ → List ℕ → List ℕ → ℕ → �
 row ps ms cs a r m k r′ c′ =
     record { policies = ps; mappings = ms; constraints = cs; any = a; self = true; register = r; certificate = replicate m 9; lent = record { result = k; register = r′; certificate = c′ } }
 
+-- the same of a certificate that is not self-issued
+not-own : Row → Row
+not-own r =
+    record { policies = r .policies; mappings = r .mappings; constraints = r .constraints; any = r .any; self = false; register = r .register; certificate = r .certificate; lent = r .lent }
+
 -- nothing is written
 unchanged : List ℕ → List ℕ → ℕ → ℕ → Row
 unfolding row
@@ -61,10 +91,12 @@ bad : ℕ → List ℕ
 bad n = 0 ∷ 1 ∷ replicate (n - 2) 0
 
 unfoldable pub rows : List Row
-unfolding row unchanged none bad filled sequence policy pair
+unfolding row not-own unchanged none bad filled sequence policy pair
 rows =
     -- 256 times the six places of a certificate with no list, and zeros to place 54
     row [] [] [] [] (none 17922) 54 1536 (none 17922) (filled 54 0 (1 ∷ []))
+    -- the same with the self-issued flag clear
+    ∷ not-own (row [] [] [] [] (none 17922) 54 1536 (none 17922) (replicate 54 0))
     -- places beyond 54 and bytes beyond 17,922 are as they were
     ∷ row [] [] [] [] (none 17925) 57 1536 (none 17925) (filled 54 0 (1 ∷ []) ++ 9 ∷ 9 ∷ 9 ∷ [])
     -- each part: the head, the policies, the issuers, the subjects; the new identifiers entered in the register

@@ -7,7 +7,7 @@ use mathlib.Core.Path.{_≡_, refl}
 use lib.ListN.{replicate}
 use Rattle.extension_rules.specs.Outcomes.{Outcome, fault, fine}
 use Rattle.extension_rules.specs.Register as Register
-use Rattle.extension_rules.specs.Register.{two-bytes, two-at, entries, ordered, all-upto, good-entry, good-place, good-register, Numbered, numbered, enter-all}
+use Rattle.extension_rules.specs.Register.{two-bytes, two-at, entries, ordered, all-upto, good-entry, good-place, good-register, Numbered, place-of, numbered, enter-all}
 use Rattle.extension_rules.proofs.Notation.{any-policy, many, free, register}
 
 -- a limit or a place and its figure
@@ -201,6 +201,30 @@ pub record Entries : Type 0 where
 pub known-entries : map (λ r. record { by-number = entries (r .bytes); in-order = ordered (r .bytes) }) entries-rows ≡ map {B = Entries} (λ r. record { by-number = r .entries; in-order = r .ordered }) entries-rows
 unfolding entries ordered entries-rows
 known-entries = refl
+
+-- the identifiers known, and the place of 2A among them
+pub record PlaceRow : Type 0 where
+  pub known : List (List ℕ)
+  pub place : ℕ
+
+placed : List (List ℕ) → ℕ → PlaceRow
+placed ks k = record { known = ks; place = k }
+
+unfoldable pub place-rows : List PlaceRow
+unfolding placed
+place-rows =
+    -- its place, from 0
+    placed ((0x2A ∷ []) ∷ (0x2B ∷ []) ∷ []) 0
+    ∷ placed ((0x2B ∷ []) ∷ (0x2A ∷ []) ∷ []) 1
+    -- their number where it is not among them
+    ∷ placed [] 0
+    ∷ placed ((0x2B ∷ []) ∷ (0x2A ∷ 0x03 ∷ []) ∷ []) 2
+    ∷ []
+
+-- Every identifier is found at the place expected.
+pub known-places : map (λ r. place-of (0x2A ∷ []) (r .known)) place-rows ≡ map (λ r. r .place) place-rows
+unfolding place-of place-rows
+known-places = refl
 
 -- the identifiers known, and another
 pub record NumberRow : Type 0 where

@@ -1,9 +1,7 @@
 -- What the function for C and Rust gives: a number, and what each lent slice then holds.
-use Prim.Native.Nat.{ℕ, _+_, _*_, _-_}
-use mathlib.Core.Bool.{Bool, true, _||_}
+use Prim.Native.Nat.{ℕ, _+_, _*_, _-_, _%_}
+use mathlib.Core.Bool.{Bool, _||_}
 use mathlib.Core.List.{List, _∷_, _++_}
-use mathlib.Core.Logic.{_⊎_}
-use mathlib.Core.Path.{_≡_}
 use lib.Dec.{ltb, eqb}
 use lib.ListN.{length, drop, replicate}
 use Rattle.rules.specs.Limits as Limits
@@ -39,8 +37,9 @@ lent-read r lent =
     }
 
 -- demand 1 for this function: 7, or one of its refusals, or 256 times a number of places
-abbrev pub ExtensionNumber : ℕ → Type 0
-ExtensionNumber n = (n ∈ (Numbers.table-short ∷ refusals) ≡ true) ⊎ ((k : ℕ) × (n ≡ 256 * k))
+unfoldable pub extension-number : ℕ → Bool
+unfolding _∈_ refusals
+extension-number n = n ∈ (Numbers.table-short ∷ refusals) || eqb (n % 256) 0
 
 -- "a slice too short is answered": 7 comes first, and then nothing is written
 unfoldable pub extensions-read : List ℕ → List ℕ → List ℕ → List ℕ → Bool → List ℕ → List ℕ → Lent

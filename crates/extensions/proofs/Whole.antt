@@ -16,7 +16,7 @@ use Rattle.record.specs.Puts.{Puts}
 use Rattle.extension_rules.specs.Outcomes.{fault, fine, when}
 use Rattle.extension_rules.specs.Register.{register-bytes, count, entries, good-register, enter-all}
 use Rattle.extension_rules.specs.Extensions.{extended, answered, read-extensions}
-use Rattle.extension_rules.specs.Face.{certificate-places, Lent, ExtensionNumber, padded, lent-read, extensions-read}
+use Rattle.extension_rules.specs.Face.{certificate-places, Lent, extension-number, padded, lent-read, extensions-read}
 use Rattle.extension_laws.proofs.Outcomes.{when-yes}
 use Rattle.extension_laws.proofs.Refusals.{demanded}
 use Rattle.identify.specs.Known.{fresh, known}
@@ -68,5 +68,5 @@ pub placed-size : (k : Certificate) (s t : List ℕ) (n : ℕ) → Puts s 0 (pac
 placed-size k s t n p = p .next ∙ omega arith
 
 -- the equation, and the numbers that it leaves
-pub both : (p m c a : List ℕ) (own : Bool) (r lent : List ℕ) (x : Lent) → x ≡ extensions-read p m c a own r lent → ExtensionNumber (x .result) × (x ≡ extensions-read p m c a own r lent)
-both p m c a own r lent x e = (subst (λ y. ExtensionNumber (y .result)) (sym e) (demanded p m c a own r lent), e)
+pub both : (p m c a : List ℕ) (own : Bool) (r lent : List ℕ) (x : Lent) → x ≡ extensions-read p m c a own r lent → (extension-number (x .result) ≡ true) × (x ≡ extensions-read p m c a own r lent)
+both p m c a own r lent x e = (ap (λ y. extension-number (y .result)) e ∙ demanded p m c a own r lent, e)

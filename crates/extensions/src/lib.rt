@@ -3,8 +3,9 @@
 mod certificate;
 mod values;
 
+ghost use mathlib.Core.Bool.{true};
 ghost use mathlib.Core.Path.{_≡_};
-ghost use Rattle.extension_rules.specs.Face.{Lent, ExtensionNumber, extensions-read};
+ghost use Rattle.extension_rules.specs.Face.{Lent, extension-number, extensions-read};
 use certificate::CERTIFICATE_PLACES;
 use certificate::clear_certificate;
 use certificate::put_certificate;
@@ -37,7 +38,7 @@ pub fn read_extensions(
     reg: &mut [u8],
     certificate: &mut [u16],
 ) -> u32
-    ensures demand_1 { λ r. ⌜ ExtensionNumber r ⌝ }
+    ensures demand_1 { λ r. ⌜ extension-number r ≡ true ⌝ }
     ensures { λ r. ⌜ _≡_ {A = Lent} (record { result = r; register = now (reg .exit); certificate = now (certificate .exit) }) (extensions-read (now (policies .entry)) (now (mappings .entry)) (now (constraints .entry)) (now (inhibit .entry)) own (now (reg .entry)) (now (certificate .entry))) ⌝ }
 {
     if reg.len() < REGISTER_BYTES {
