@@ -21,39 +21,85 @@ use borrow.Author.Needs.{needs}
 use Rattle.certificate_policies.proofs.read_policy.Statement.{statement}
 use Rattle.certificate_policies.proofs.read_policy.Tie as tie
 
+-- the states that the proofs below look back to
+abbrev start : tie.After-header-of → tie.Start
+start c = c .before .before .before .before .before
+
+abbrev at-header-of : tie.After-identifier → tie.After-header-of
+at-header-of c = c .before
+
+abbrev at-identifier : tie.Else1 → tie.After-identifier
+at-identifier c = c .before
+
+abbrev start-of-else1 : tie.Else1 → tie.Start
+start-of-else1 c = start (at-header-of (at-identifier c))
+
+abbrev at-else1 : tie.Else2 → tie.Else1
+at-else1 c = c .before .before .before
+
+abbrev start-of-else2 : tie.Else2 → tie.Start
+start-of-else2 c = start-of-else1 (at-else1 c)
+
+abbrev at-else2 : tie.After-number → tie.Else2
+at-else2 c = c .before .before
+
+abbrev at-number : tie.Else3 → tie.After-number
+at-number c = c .before .before .before
+
+abbrev at-else3 : tie.After-is-listed → tie.Else3
+at-else3 c = c .before .before
+
+abbrev at-is-listed : tie.Else4 → tie.After-is-listed
+at-is-listed c = c .before
+
+abbrev at-else4 : tie.After-put-policy → tie.Else4
+at-else4 c = c .before .before
+
+abbrev at-put-policy : tie.After-are-qualifiers → tie.After-put-policy
+at-put-policy c = c .before .before .before .before
+
+abbrev at-number-of-are-qualifiers : tie.After-are-qualifiers → tie.After-number
+at-number-of-are-qualifiers c = at-number (at-else3 (at-is-listed (at-else4 (at-put-policy c))))
+
+abbrev at-else2-of-are-qualifiers : tie.After-are-qualifiers → tie.Else2
+at-else2-of-are-qualifiers c = at-else2 (at-number-of-are-qualifiers c)
+
+abbrev start-of-are-qualifiers : tie.After-are-qualifiers → tie.Start
+start-of-are-qualifiers c = start-of-else2 (at-else2-of-are-qualifiers c)
+
 -- its identifier, and what follows it
-found : (c : tie.Else1) → let a = c .before .before .before .before .before .before .before .args in let h = c .before .before .header-of .result in identifier (a .s .now) ≡ fine (record { content = c .before .identifier .result .now; rest = drop (h .end) (a .s .now) })
+found : (c : tie.Else1) → let a = start-of-else1 c .args in let h = c .before .before .header-of .result in identifier (a .s .now) ≡ fine (record { content = c .before .identifier .result .now; rest = drop (h .end) (a .s .now) })
 found c = identifier-some (c .before .before .header-of .ensures) (c .before .identifier .ensures) (c .if1 .left)
 
 -- the list has room for one more
-room : (c : tie.Else2) → length (listed (c .before .before .before .before .before .before .before .before .before .before .args .ps .now)) < Limits.listed
+room : (c : tie.Else2) → length (listed (start-of-else2 c .args .ps .now)) < Limits.listed
 room c =
-    let s = c .before .before .before .before .before .before .before .before .before .before in
+    let s = start-of-else2 c in
     subst (λ m. m < Limits.listed) (c .before .wide .ensures ∙ sym (listed-length _ (omega (arith, s .pre .few, s .pre .places)))) (omega arith)
 
 -- the identifier's number
-numbers : (c : tie.Else3) → let a = c .before .before .before .before .before .before .before .before .before .before .before .before .before .before .before .args in let n = c .before .before .before .number in numbered (known (a .r .now) (a .f .now)) (c .before .before .before .before .before .before .before .before .before .identifier .result .now) ≡ fine (record { policy = n .result; known = known (a .r .now) (n .last .1 .0) })
+numbers : (c : tie.Else3) → let a = start (at-header-of (at-identifier (at-else1 (at-else2 (at-number c))))) .args in let n = c .before .before .before .number in numbered (known (a .r .now) (a .f .now)) (at-identifier (at-else1 (at-else2 (at-number c))) .identifier .result .now) ≡ fine (record { policy = n .result; known = known (a .r .now) (n .last .1 .0) })
 numbers c = sym (c .before .before .before .number .ensures .0) ∙ as-number _ _ (omega arith)
 
 -- with the policy in the list, the qualifiers decide
-after : (c : tie.After-are-qualifiers) → let a = c .before .before .before .before .before .before .before .before .before .before .before .before .before .before .before .before .before .before .before .before .before .before .before .before .args in policy (with-policies (a .r .now) (a .f .now) (a .ps .now)) (a .s .now) ≡ when (c .are-qualifiers .result) Numbers.not-der (fine (with-policies (a .r .now) (c .before .before .before .before .before .before .before .before .before .before .before .before .number .last .1 .0) (c .before .before .before .before .put-policy .last .0)))
+after : (c : tie.After-are-qualifiers) → let a = start-of-are-qualifiers c .args in policy (with-policies (a .r .now) (a .f .now) (a .ps .now)) (a .s .now) ≡ when (c .are-qualifiers .result) Numbers.not-der (fine (with-policies (a .r .now) (at-number-of-are-qualifiers c .number .last .1 .0) (at-put-policy c .put-policy .last .0)))
 after c =
-    let a = c .before .before .before .before .before .before .before .before .before .before .before .before .before .before .before .before .before .before .before .before .before .before .before .before .args in
-    let n = c .before .before .before .before .before .before .before .before .before .before .before .before .number in
-    policy-after _ _ _ (found (c .before .before .before .before .before .before .before .before .before .before .before .before .before .before .before .before .before)) (room (c .before .before .before .before .before .before .before .before .before .before .before .before .before .before)) _ (numbers (c .before .before .before .before .before .before .before .before .before)) (sym (c .before .before .before .before .before .before .before .is-listed .ensures) ∙ c .before .before .before .before .before .before .if4 .left)
-    ∙ ap₂ (λ l s. qualifiers (record { known = known (a .r .now) (n .last .1 .0); policies = l; issuers = []; subjects = [] }) s) (sym (c .before .before .before .before .put-policy .ensures .0)) (sym (left-is (a .s .now) (c .before .before .before .before .before .before .before .before .before .before .before .before .before .before .before .before .before .before .before .header-of .result .end)))
+    let a = start-of-are-qualifiers c .args in
+    let n = at-number-of-are-qualifiers c .number in
+    policy-after _ _ _ (found (at-else1 (at-else2 (at-number (at-else3 (at-is-listed (at-else4 (at-put-policy c)))))))) (room (at-else2-of-are-qualifiers c)) _ (numbers (at-else3 (at-is-listed (at-else4 (at-put-policy c))))) (sym (at-is-listed (at-else4 (at-put-policy c)) .is-listed .ensures) ∙ at-else4 (at-put-policy c) .if4 .left)
+    ∙ ap₂ (λ l s. qualifiers (record { known = known (a .r .now) (n .last .1 .0); policies = l; issuers = []; subjects = [] }) s) (sym (at-put-policy c .put-policy .ensures .0)) (sym (left-is (a .s .now) (at-header-of (at-identifier (at-else1 (at-else2 (at-number (at-else3 (at-is-listed (at-else4 (at-put-policy c)))))))) .header-of .result .end)))
     ∙ sym (c .are-qualifiers .ensures _)
 
 -- and there is still room
-policies-after : (c : tie.After-are-qualifiers) → let a = c .before .before .before .before .before .before .before .before .before .before .before .before .before .before .before .before .before .before .before .before .before .before .before .before .args in Policies (a .r .now) (c .before .before .before .before .before .before .before .before .before .before .before .before .number .last .1 .0) (c .before .before .before .before .put-policy .last .0)
+policies-after : (c : tie.After-are-qualifiers) → let a = start-of-are-qualifiers c .args in Policies (a .r .now) (at-number-of-are-qualifiers c .number .last .1 .0) (at-put-policy c .put-policy .last .0)
 policies-after c =
-    let s = c .before .before .before .before .before .before .before .before .before .before .before .before .before .before .before .before .before .before .before .before .before .before .before .before in
-    let n = c .before .before .before .before .before .before .before .before .before .before .before .before .number .ensures in
-    let p = c .before .before .before .before .put-policy .ensures in
+    let s = start-of-are-qualifiers c in
+    let n = at-number-of-are-qualifiers c .number .ensures in
+    let p = at-put-policy c .put-policy .ensures in
     record {
       holds = n .1 .0;
       places = omega (arith, s .pre .places);
-      few = omega (arith, p .1, room (c .before .before .before .before .before .before .before .before .before .before .before .before .before .before), listed-length (s .args .ps .now) (omega (arith, s .pre .few, s .pre .places)));
+      few = omega (arith, p .1, room (at-else2-of-are-qualifiers c), listed-length (s .args .ps .now) (omega (arith, s .pre .few, s .pre .places)));
       news = omega (arith, n .1 .1 .0, p .1, s .pre .news);
     }
 
@@ -74,13 +120,13 @@ wide-requires c κs = search needs
 
 returns-2 : tie.Need-returns-2
 returns-2 c =
-    let s = c .before .before .before .before .before .before .before .before .before .before in
+    let s = start-of-else1 (c .before .before .before) in
     (answer-fault _ _ (λ e. omega arith) ∙ sym (policy-over _ _ _ (found (c .before .before .before)) (subst (λ m. Limits.listed ≤ m) (c .before .wide .ensures ∙ sym (listed-length _ (omega (arith, s .pre .few, s .pre .places)))) (c .if2 .taken))), λ e. absurd (omega arith))
 
 number-requires : tie.Need-number-requires
 number-requires c κs =
-    let s = c .before .before .before .before .before .before .before .before .before .before .before in
-    (s .pre .holds, (omega (arith, s .pre .news, c .before .before .wide .ensures), identifier-valid (c .before .before .before .before .before .before .header-of .ensures) (c .before .before .before .before .before .identifier .ensures) (c .before .before .before .before .if1 .left)))
+    let s = start-of-else2 (c .before) in
+    (s .pre .holds, (omega (arith, s .pre .news, c .before .before .wide .ensures), identifier-valid (at-header-of (at-identifier (at-else1 (c .before))) .header-of .ensures) (at-identifier (at-else1 (c .before)) .identifier .ensures) (at-else1 (c .before) .if1 .left)))
 
 cast-result : tie.Need-cast-result
 cast-result c = search needs
@@ -91,7 +137,7 @@ same-length c = search needs
 returns-3 : tie.Need-returns-3
 returns-3 c =
     let n = c .before .before .before .number in
-    (answer-fault _ _ (λ e. n .ensures .1 .1 .1 .1 (omega arith)) ∙ sym (policy-refused _ _ _ (found (c .before .before .before .before .before .before .before .before)) (room (c .before .before .before .before .before)) _ (sym (n .ensures .0) ∙ as-refusal _ _ (c .if3 .taken))), λ e. absurd (n .ensures .1 .1 .1 .1 (omega arith)))
+    (answer-fault _ _ (λ e. n .ensures .1 .1 .1 .1 (omega arith)) ∙ sym (policy-refused _ _ _ (found (at-else1 (at-else2 (c .before .before .before)))) (room (at-else2 (c .before .before .before))) _ (sym (n .ensures .0) ∙ as-refusal _ _ (c .if3 .taken))), λ e. absurd (n .ensures .1 .1 .1 .1 (omega arith)))
 
 cast-is-listed : tie.Need-cast-is-listed
 cast-is-listed c = search needs
@@ -107,7 +153,7 @@ same-length-3 c = search needs
 
 returns-4 : tie.Need-returns-4
 returns-4 c =
-    (answer-fault _ _ (λ e. omega arith) ∙ sym (policy-repeated _ _ _ (found (c .before .before .before .before .before .before .before .before .before .before .before)) (room (c .before .before .before .before .before .before .before .before)) _ (numbers (c .before .before .before)) (sym (c .before .is-listed .ensures) ∙ c .if4 .taken)), λ e. absurd (omega arith))
+    (answer-fault _ _ (λ e. omega arith) ∙ sym (policy-repeated _ _ _ (found (at-else1 (at-else2 (at-number (at-else3 (c .before)))))) (room (at-else2 (at-number (at-else3 (c .before))))) _ (numbers (c .before .before .before)) (sym (c .before .is-listed .ensures) ∙ c .if4 .taken)), λ e. absurd (omega arith))
 
 cast-put-policy : tie.Need-cast-put-policy
 cast-put-policy c = search needs

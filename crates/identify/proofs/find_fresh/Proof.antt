@@ -19,6 +19,13 @@ Inv-loop f id m j₀ j = (j ≤ m) × (m ≡ fresh-count f) × ((i : ℕ) → i 
 abbrev μ-loop : tie.MeasureT-loop
 μ-loop f id m j₀ j = m - j
 
+-- the states that the proofs below look back to
+abbrev start : tie.At-loop Inv-loop μ-loop → tie.Start Inv-loop μ-loop
+start c = c .before .before .before .before .before
+
+abbrev at-loop : tie.After-alike Inv-loop μ-loop → tie.At-loop Inv-loop μ-loop
+at-loop c = c .before .before .before
+
 shared-slice-read-wide : tie.Need-shared-slice-read-wide Inv-loop μ-loop
 shared-slice-read-wide c = omega (arith, c .before .before .before .pre .bytes)
 
@@ -29,14 +36,14 @@ loop-holds : tie.Need-loop-holds Inv-loop μ-loop
 loop-holds c = (omega arith, c .wide .ensures, λ i h. absurd (omega arith))
 
 mul-octets-at : tie.Need-mul-octets-at Inv-loop μ-loop
-mul-octets-at c = omega (arith, c .before .before .before .before .before .before .pre .few)
+mul-octets-at c = omega (arith, start (c .before) .pre .few)
 
 add-octets-at : tie.Need-add-octets-at Inv-loop μ-loop
-add-octets-at c = omega (arith, c .before .before .before .before .before .before .pre .few)
+add-octets-at c = omega (arith, start (c .before) .pre .few)
 
 octets-at-requires : tie.Need-octets-at-requires Inv-loop μ-loop
 octets-at-requires c κs =
-    let s = c .before .before .before .before .before .before in
+    let s = start (c .before) in
     let l = c .before .loop in
     omega (arith, s .pre .few, s .pre .bytes, s .pre .lengths (l .j) (omega arith))
 
@@ -45,8 +52,8 @@ alike-requires c κs = tt
 
 returns : tie.Need-returns Inv-loop μ-loop
 returns c =
-    let s = c .before .before .before .before .before .before .before .before .before in
-    let l = c .before .before .before .before .loop in
+    let s = start (at-loop (c .before)) in
+    let l = at-loop (c .before) .loop in
     let h : l .j < fresh-count (s .args .f .now) = omega arith in
     sym (place-at (s .args .id .now) (fresh (s .args .f .now)) (l .j) (omega (arith, fresh-length (s .args .f .now)))
     (ap (alike _) (fresh-at _ (l .j) h ∙ sym (c .before .before .octets-at .ensures)) ∙ sym (c .before .alike .ensures) ∙ c .if1 .taken)
@@ -60,8 +67,8 @@ loop-less c = omega arith
 
 loop-again : tie.Need-loop-again Inv-loop μ-loop
 loop-again c =
-    let s = c .before .before .before .before .before .before .before .before .before in
-    let l = c .before .before .before .before .loop in
+    let s = start (at-loop (c .before)) in
+    let l = at-loop (c .before) .loop in
     let h : l .j < fresh-count (s .args .f .now) = omega arith in (
       omega arith,
       l .inv .1,
@@ -74,7 +81,7 @@ loop-again c =
 
 returns-2 : tie.Need-returns-2 Inv-loop μ-loop
 returns-2 c =
-    let s = c .before .before .before .before .before .before in
+    let s = start (c .before) in
     let l = c .before .loop in
     let e = fresh-length (s .args .f .now) in
     l .inv .1 ∙ sym (place-none (s .args .id .now) (fresh (s .args .f .now)) (λ i h. l .inv .2 i (omega arith)) ∙ e)

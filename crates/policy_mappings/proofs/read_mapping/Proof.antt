@@ -19,18 +19,49 @@ use borrow.Author.Needs.{needs}
 use Rattle.policy_mappings.proofs.read_mapping.Statement.{statement}
 use Rattle.policy_mappings.proofs.read_mapping.Tie as tie
 
+-- the states that the proofs below look back to
+abbrev start : tie.After-header-of → tie.Start
+start c = c .before .before .before .before .before
+
+abbrev at-header-of : tie.After-identifier → tie.After-header-of
+at-header-of c = c .before
+
+abbrev at-identifier : tie.Else1 → tie.After-identifier
+at-identifier c = c .before
+
+abbrev start-of-else1 : tie.Else1 → tie.Start
+start-of-else1 c = start (at-header-of (at-identifier c))
+
+abbrev at-else1 : tie.Else2 → tie.Else1
+at-else1 c = c .before .before .before
+
+abbrev start-of-else2 : tie.Else2 → tie.Start
+start-of-else2 c = start-of-else1 (at-else1 c)
+
+abbrev at-else2 : tie.After-number → tie.Else2
+at-else2 c = c .before .before
+
+abbrev at-number : tie.Else3 → tie.After-number
+at-number c = c .before .before .before
+
+abbrev at-else3 : tie.After-read-subject → tie.Else3
+at-else3 c = c .before .before .before .before
+
+abbrev at-read-subject : tie.After-slice-known6 → tie.After-read-subject
+at-read-subject c = c .before .before .before .before
+
 -- its issuer's identifier, and what follows it
-found : (c : tie.Else1) → let a = c .before .before .before .before .before .before .before .args in let h = c .before .before .header-of .result in identifier (a .s .now) ≡ fine (record { content = c .before .identifier .result .now; rest = drop (h .end) (a .s .now) })
+found : (c : tie.Else1) → let a = start-of-else1 c .args in let h = c .before .before .header-of .result in identifier (a .s .now) ≡ fine (record { content = c .before .identifier .result .now; rest = drop (h .end) (a .s .now) })
 found c = identifier-some (c .before .before .header-of .ensures) (c .before .identifier .ensures) (c .if1 .left)
 
 -- the list has room for one more
-room : (c : tie.Else2) → length (issuers (c .before .before .before .before .before .before .before .before .before .before .args .ms .now)) < Limits.listed
+room : (c : tie.Else2) → length (issuers (start-of-else2 c .args .ms .now)) < Limits.listed
 room c =
-    let s = c .before .before .before .before .before .before .before .before .before .before in
+    let s = start-of-else2 c in
     subst (λ m. m < Limits.listed) (c .before .wide .ensures ∙ sym (issuers-length _ (omega (arith, s .pre .few, s .pre .places)))) (omega arith)
 
 -- the issuer's number
-numbers : (c : tie.Else3) → let a = c .before .before .before .before .before .before .before .before .before .before .before .before .before .before .before .args in let n = c .before .before .before .number in numbered (known (a .r .now) (a .f .now)) (c .before .before .before .before .before .before .before .before .before .identifier .result .now) ≡ fine (record { policy = n .result; known = known (a .r .now) (n .last .1 .0) })
+numbers : (c : tie.Else3) → let a = start (at-header-of (at-identifier (at-else1 (at-else2 (at-number c))))) .args in let n = c .before .before .before .number in numbered (known (a .r .now) (a .f .now)) (at-identifier (at-else1 (at-else2 (at-number c))) .identifier .result .now) ≡ fine (record { policy = n .result; known = known (a .r .now) (n .last .1 .0) })
 numbers c = sym (c .before .before .before .number .ensures .0) ∙ as-number _ _ (omega arith)
 
 header-of-requires : tie.Need-header-of-requires
@@ -50,13 +81,13 @@ wide-requires c κs = search needs
 
 returns-2 : tie.Need-returns-2
 returns-2 c =
-    let s = c .before .before .before .before .before .before .before .before .before .before in
+    let s = start-of-else1 (c .before .before .before) in
     (λ qs. answer-fault _ _ (λ e. omega arith) ∙ sym (mapping-over _ _ _ (found (c .before .before .before)) (subst (λ m. Limits.listed ≤ m) (c .before .wide .ensures ∙ sym (issuers-length _ (omega (arith, s .pre .few, s .pre .places)))) (c .if2 .taken))), λ e. absurd (omega arith))
 
 number-requires : tie.Need-number-requires
 number-requires c κs =
-    let s = c .before .before .before .before .before .before .before .before .before .before .before in
-    (s .pre .holds, (omega (arith, s .pre .news, c .before .before .wide .ensures), identifier-valid (c .before .before .before .before .before .before .header-of .ensures) (c .before .before .before .before .before .identifier .ensures) (c .before .before .before .before .if1 .left)))
+    let s = start-of-else2 (c .before) in
+    (s .pre .holds, (omega (arith, s .pre .news, c .before .before .wide .ensures), identifier-valid (at-header-of (at-identifier (at-else1 (c .before))) .header-of .ensures) (at-identifier (at-else1 (c .before)) .identifier .ensures) (at-else1 (c .before) .if1 .left)))
 
 cast-result : tie.Need-cast-result
 cast-result c = search needs
@@ -67,7 +98,7 @@ same-length c = search needs
 returns-3 : tie.Need-returns-3
 returns-3 c =
     let n = c .before .before .before .number in
-    (λ qs. answer-fault _ _ (λ e. n .ensures .1 .1 .1 .1 (omega arith)) ∙ sym (mapping-refused _ _ _ (found (c .before .before .before .before .before .before .before .before)) (room (c .before .before .before .before .before)) _ (sym (n .ensures .0) ∙ as-refusal _ _ (c .if3 .taken))), λ e. absurd (n .ensures .1 .1 .1 .1 (omega arith)))
+    (λ qs. answer-fault _ _ (λ e. n .ensures .1 .1 .1 .1 (omega arith)) ∙ sym (mapping-refused _ _ _ (found (at-else1 (at-else2 (c .before .before .before)))) (room (at-else2 (c .before .before .before))) _ (sym (n .ensures .0) ∙ as-refusal _ _ (c .if3 .taken))), λ e. absurd (n .ensures .1 .1 .1 .1 (omega arith)))
 
 sub-read-subject : tie.Need-sub-read-subject
 sub-read-subject c = search needs
@@ -92,10 +123,10 @@ same-length-3 c = search needs
 
 returns-4 : tie.Need-returns-4
 returns-4 c =
-    let a = c .before .before .before .before .before .before .before .before .before .before .before .before .before .before .before .before .before .before .before .before .before .before .before .args in
-    let r = c .before .before .before .before .read-subject in
-    let n = c .before .before .before .before .before .before .before .before .before .before .before .number in
-    (λ qs. r .ensures .0 qs ∙ ap (subject-read (with-pairs (a .r .now) (n .last .1 .0) qs (a .ms .now)) (n .result)) (left-is (a .s .now) (c .before .before .before .before .before .before .before .before .before .before .before .before .before .before .before .before .before .before .header-of .result .end)) ∙ sym (mapping-after _ _ _ (found (c .before .before .before .before .before .before .before .before .before .before .before .before .before .before .before .before)) (room (c .before .before .before .before .before .before .before .before .before .before .before .before .before)) _ (numbers (c .before .before .before .before .before .before .before .before))), r .ensures .1)
+    let a = start (at-header-of (at-identifier (at-else1 (at-else2 (at-number (at-else3 (at-read-subject c))))))) .args in
+    let r = at-read-subject c .read-subject in
+    let n = at-number (at-else3 (at-read-subject c)) .number in
+    (λ qs. r .ensures .0 qs ∙ ap (subject-read (with-pairs (a .r .now) (n .last .1 .0) qs (a .ms .now)) (n .result)) (left-is (a .s .now) (at-header-of (at-identifier (at-else1 (at-else2 (at-number (at-else3 (at-read-subject c)))))) .header-of .result .end)) ∙ sym (mapping-after _ _ _ (found (at-else1 (at-else2 (at-number (at-else3 (at-read-subject c)))))) (room (at-else2 (at-number (at-else3 (at-read-subject c))))) _ (numbers (at-else3 (at-read-subject c)))), r .ensures .1)
 
 pub read-mapping-spec : {M : Type 1} → statement M
 read-mapping-spec =

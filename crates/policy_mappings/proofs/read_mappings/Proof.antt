@@ -22,8 +22,39 @@ Inv-loop s r f₀ ms₀ first last left₀ f ms left = (length f ≡ length f₀
 abbrev μ-loop : tie.MeasureT-loop
 μ-loop s r f₀ ms₀ first last left₀ f ms left = length left
 
+-- the states that the proofs below look back to
+abbrev start : tie.After-slice-known2 Inv-loop μ-loop → tie.Start Inv-loop μ-loop
+start c = c .before .before .before .before
+
+abbrev at-slice-known2 : tie.After-header-of Inv-loop μ-loop → tie.After-slice-known2 Inv-loop μ-loop
+at-slice-known2 c = c .before .before
+
+abbrev at-header-of : tie.Else3 Inv-loop μ-loop → tie.After-header-of Inv-loop μ-loop
+at-header-of c = c .before .before
+
+abbrev at-else3 : tie.At-loop Inv-loop μ-loop → tie.Else3 Inv-loop μ-loop
+at-else3 c = c .before .before
+
+abbrev at-loop : tie.After-header-of2 Inv-loop μ-loop → tie.At-loop Inv-loop μ-loop
+at-loop c = c .before .before
+
+abbrev at-header-of2 : tie.After-read-mapping-arg3 Inv-loop μ-loop → tie.After-header-of2 Inv-loop μ-loop
+at-header-of2 c = c .before .before .before .before
+
+abbrev at-read-mapping-arg3 : tie.After-read-mapping Inv-loop μ-loop → tie.After-read-mapping-arg3 Inv-loop μ-loop
+at-read-mapping-arg3 c = c .before
+
+abbrev at-read-mapping : tie.After-slice-known4 Inv-loop μ-loop → tie.After-read-mapping Inv-loop μ-loop
+at-read-mapping c = c .before .before .before .before
+
+abbrev at-header-of2-of-slice-known4 : tie.After-slice-known4 Inv-loop μ-loop → tie.After-header-of2 Inv-loop μ-loop
+at-header-of2-of-slice-known4 c = at-header-of2 (at-read-mapping-arg3 (at-read-mapping c))
+
+abbrev at-loop-of-slice-known4 : tie.After-slice-known4 Inv-loop μ-loop → tie.At-loop Inv-loop μ-loop
+at-loop-of-slice-known4 c = at-loop (at-header-of2-of-slice-known4 c)
+
 returns : tie.Need-returns Inv-loop μ-loop
-returns c = let s = c .before .before .before .before .before in (λ qs. answer-fine _ ∙ sym (value-none _ _ (c .if1 .taken)), λ e. s .pre)
+returns c = let s = start (c .before) in (λ qs. answer-fine _ ∙ sym (value-none _ _ (c .if1 .taken)), λ e. s .pre)
 
 header-of-requires : tie.Need-header-of-requires Inv-loop μ-loop
 header-of-requires c κs = tt
@@ -44,7 +75,7 @@ part-left-end : tie.Need-part-left-end Inv-loop μ-loop
 part-left-end c = search needs
 
 loop-holds : tie.Need-loop-holds Inv-loop μ-loop
-loop-holds c = (refl, refl, c .before .before .before .before .before .before .before .before .before .pre, λ qs. refl)
+loop-holds c = (refl, refl, start (at-slice-known2 (at-header-of (c .before))) .pre, λ qs. refl)
 
 header-of-requires-2 : tie.Need-header-of-requires-2 Inv-loop μ-loop
 header-of-requires-2 c κs = tt
@@ -59,7 +90,7 @@ returns-4 : tie.Need-returns-4 Inv-loop μ-loop
 returns-4 c =
     let l = c .before .before .before .loop in (
       λ qs. answer-fault _ _ (λ e. omega arith)
-          ∙ sym (value-some _ _ (omega arith) ∙ list-fault (c .before .before .before .before .before .before .before .header-of .ensures) mapping _ Numbers.wrong-count (omega arith) (c .before .before .before .before .before .if3 .left) Numbers.not-der (l .inv .3 qs ∙ element-refused (c .before .header-of2 .ensures) mapping _ (omega arith) (c .if4 .taken))),
+          ∙ sym (value-some _ _ (omega arith) ∙ list-fault (at-header-of (at-else3 (at-loop (c .before))) .header-of .ensures) mapping _ Numbers.wrong-count (omega arith) (at-else3 (at-loop (c .before)) .if3 .left) Numbers.not-der (l .inv .3 qs ∙ element-refused (c .before .header-of2 .ensures) mapping _ (omega arith) (c .if4 .taken))),
       λ e. absurd (omega arith),
     )
 
@@ -73,7 +104,7 @@ part-read-mapping-end : tie.Need-part-read-mapping-end Inv-loop μ-loop
 part-read-mapping-end c = search needs
 
 read-mapping-requires : tie.Need-read-mapping-requires Inv-loop μ-loop
-read-mapping-requires c κs = c .before .before .before .before .before .before .loop .inv .2
+read-mapping-requires c κs = at-loop (at-header-of2 c) .loop .inv .2
 
 same-length-3 : tie.Need-same-length-3 Inv-loop μ-loop
 same-length-3 c = search needs
@@ -83,15 +114,15 @@ same-length-4 c = search needs
 
 returns-5 : tie.Need-returns-5 Inv-loop μ-loop
 returns-5 c =
-    let l = c .before .before .before .before .before .before .before .before .before .before .before .before .loop in
-    let p = c .before .before .before .before .before .read-mapping in (
+    let l = at-loop-of-slice-known4 (c .before) .loop in
+    let p = at-read-mapping (c .before) .read-mapping in (
       λ qs. answer-fault _ _ (c .if5 .taken)
-          ∙ sym (value-some _ _ (omega arith) ∙ list-fault (c .before .before .before .before .before .before .before .before .before .before .before .before .before .before .before .before .header-of .ensures) mapping _ Numbers.wrong-count (omega arith) (c .before .before .before .before .before .before .before .before .before .before .before .before .before .before .if3 .left) _ (l .inv .3 qs ∙ element-read (c .before .before .before .before .before .before .before .before .before .before .header-of2 .ensures) mapping _ (omega arith) (omega arith) ∙ then-fault _ _ (sym (p .ensures .0 qs) ∙ answer-fault _ _ (c .if5 .taken)))),
+          ∙ sym (value-some _ _ (omega arith) ∙ list-fault (at-header-of (at-else3 (at-loop (at-header-of2 (at-read-mapping-arg3 (at-read-mapping (c .before)))))) .header-of .ensures) mapping _ Numbers.wrong-count (omega arith) (at-else3 (at-loop (at-header-of2 (at-read-mapping-arg3 (at-read-mapping (c .before))))) .if3 .left) _ (l .inv .3 qs ∙ element-read (at-header-of2-of-slice-known4 (c .before) .header-of2 .ensures) mapping _ (omega arith) (omega arith) ∙ then-fault _ _ (sym (p .ensures .0 qs) ∙ answer-fault _ _ (c .if5 .taken)))),
       λ e. absurd (c .if5 .taken e),
     )
 
 sub-left-2 : tie.Need-sub-left-2 Inv-loop μ-loop
-sub-left-2 c = c .before .before .before .before .before .before .before .before .before .before .header-of2 .ensures .fits
+sub-left-2 c = at-header-of2-of-slice-known4 (c .before) .header-of2 .ensures .fits
 
 part-left-start-2 : tie.Need-part-left-start-2 Inv-loop μ-loop
 part-left-start-2 c = search needs
@@ -101,17 +132,17 @@ part-left-end-2 c = search needs
 
 loop-less : tie.Need-loop-less Inv-loop μ-loop
 loop-less c =
-    let h = c .before .before .before .before .before .before .before .before .before .before .before .header-of2 in
-    omega (arith, left-length (c .before .before .before .before .before .before .before .before .before .before .before .before .before .loop .left .now) (h .result .end), h .ensures .fits, h .ensures .ordered)
+    let h = at-header-of2-of-slice-known4 (c .before .before) .header-of2 in
+    omega (arith, left-length (at-loop-of-slice-known4 (c .before .before) .loop .left .now) (h .result .end), h .ensures .fits, h .ensures .ordered)
 
 loop-again : tie.Need-loop-again Inv-loop μ-loop
 loop-again c =
-    let l = c .before .before .before .before .before .before .before .before .before .before .before .before .before .loop in
-    let p = c .before .before .before .before .before .before .read-mapping in (
+    let l = at-loop-of-slice-known4 (c .before .before) .loop in
+    let p = at-read-mapping (c .before .before) .read-mapping in (
       omega (arith, l .inv .0),
       omega (arith, l .inv .1),
       p .ensures .1 (c .before .if5 .left),
-      λ qs. l .inv .3 qs ∙ element-read (c .before .before .before .before .before .before .before .before .before .before .before .header-of2 .ensures) mapping _ (omega arith) (omega arith) ∙ then-fine _ _ (sym (p .ensures .0 qs) ∙ answer-none _ _ (c .before .if5 .left)),
+      λ qs. l .inv .3 qs ∙ element-read (at-header-of2-of-slice-known4 (c .before .before) .header-of2 .ensures) mapping _ (omega arith) (omega arith) ∙ then-fine _ _ (sym (p .ensures .0 qs) ∙ answer-none _ _ (c .before .if5 .left)),
     )
 
 same-length-5 : tie.Need-same-length-5 Inv-loop μ-loop
@@ -124,7 +155,7 @@ returns-6 : tie.Need-returns-6 Inv-loop μ-loop
 returns-6 c =
     let l = c .before .before .loop in (
       λ qs. answer-fault _ _ (λ e. omega arith)
-          ∙ sym (value-some _ _ (omega arith) ∙ list-read (c .before .before .before .before .before .before .header-of .ensures) mapping _ Numbers.wrong-count (omega arith) (c .before .before .before .before .if3 .left) _ (l .inv .3 qs ∙ all-none mapping _ (l .left .now) (omega arith)) ∙ ended-over _ _ _ (c .if6 .taken)),
+          ∙ sym (value-some _ _ (omega arith) ∙ list-read (at-header-of (at-else3 (c .before .before)) .header-of .ensures) mapping _ Numbers.wrong-count (omega arith) (at-else3 (c .before .before) .if3 .left) _ (l .inv .3 qs ∙ all-none mapping _ (l .left .now) (omega arith)) ∙ ended-over _ _ _ (c .if6 .taken)),
       λ e. absurd (omega arith),
     )
 
@@ -138,7 +169,7 @@ returns-7 : tie.Need-returns-7 Inv-loop μ-loop
 returns-7 c =
     let l = c .before .before .loop in (
       λ qs. answer-fine _
-          ∙ sym (value-some _ _ (omega arith) ∙ list-read (c .before .before .before .before .before .before .header-of .ensures) mapping _ Numbers.wrong-count (omega arith) (c .before .before .before .before .if3 .left) _ (l .inv .3 qs ∙ all-none mapping _ (l .left .now) (omega arith)) ∙ ended-there _ _ _ (c .if6 .left)),
+          ∙ sym (value-some _ _ (omega arith) ∙ list-read (at-header-of (at-else3 (c .before .before)) .header-of .ensures) mapping _ Numbers.wrong-count (omega arith) (at-else3 (c .before .before) .if3 .left) _ (l .inv .3 qs ∙ all-none mapping _ (l .left .now) (omega arith)) ∙ ended-there _ _ _ (c .if6 .left)),
       λ e. l .inv .2,
     )
 

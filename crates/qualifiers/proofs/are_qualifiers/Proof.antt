@@ -20,6 +20,19 @@ Inv-loop s first last left₀ left = elements qualifier (length left₀) true le
 abbrev μ-loop : tie.MeasureT-loop
 μ-loop s first last left₀ left = length left
 
+-- the states that the proofs below look back to
+abbrev at-header-of : tie.Else2 Inv-loop μ-loop → tie.After-header-of Inv-loop μ-loop
+at-header-of c = c .before
+
+abbrev at-else2 : tie.At-loop Inv-loop μ-loop → tie.Else2 Inv-loop μ-loop
+at-else2 c = c .before .before
+
+abbrev at-loop : tie.After-header-of2 Inv-loop μ-loop → tie.At-loop Inv-loop μ-loop
+at-loop c = c .before .before
+
+abbrev at-header-of2 : tie.After-is-qualifier Inv-loop μ-loop → tie.After-header-of2 Inv-loop μ-loop
+at-header-of2 c = c .before .before .before
+
 returns : tie.Need-returns Inv-loop μ-loop
 returns c = λ g. when-yes _ _ refl ∙ sym (qualifiers-none g _ (c .if1 .taken))
 
@@ -49,7 +62,7 @@ header-of-requires-2 c κs = tt
 returns-3 : tie.Need-returns-3 Inv-loop μ-loop
 returns-3 c =
     let l = c .before .before .before .loop in
-    λ g. when-no _ _ refl ∙ sym (qualifiers-fault g (c .before .before .before .before .before .before .header-of .ensures) (omega arith) (c .before .before .before .before .before .if2 .left) Numbers.not-der (l .inv ∙ element-refused (c .before .header-of2 .ensures) qualifier true (omega arith) (c .if3 .taken)))
+    λ g. when-no _ _ refl ∙ sym (qualifiers-fault g (at-header-of (at-else2 (at-loop (c .before))) .header-of .ensures) (omega arith) (at-else2 (at-loop (c .before)) .if2 .left) Numbers.not-der (l .inv ∙ element-refused (c .before .header-of2 .ensures) qualifier true (omega arith) (c .if3 .taken)))
 
 sub-is-qualifier : tie.Need-sub-is-qualifier Inv-loop μ-loop
 sub-is-qualifier c = c .before .header-of2 .ensures .ordered
@@ -65,12 +78,12 @@ is-qualifier-requires c κs = tt
 
 returns-4 : tie.Need-returns-4 Inv-loop μ-loop
 returns-4 c =
-    let l = c .before .before .before .before .before .before .loop in
-    let h = c .before .before .before .before .header-of2 in
-    λ g. when-no _ _ refl ∙ sym (qualifiers-fault g (c .before .before .before .before .before .before .before .before .before .header-of .ensures) (omega arith) (c .before .before .before .before .before .before .before .before .if2 .left) Numbers.not-der (l .inv ∙ element-read (h .ensures) qualifier true (omega arith) (omega arith) ∙ then-fault _ Numbers.not-der (sym (c .before .is-qualifier .ensures) ∙ when-no _ _ (not-true _ (c .if4 .taken)))))
+    let l = at-loop (at-header-of2 (c .before)) .loop in
+    let h = at-header-of2 (c .before) .header-of2 in
+    λ g. when-no _ _ refl ∙ sym (qualifiers-fault g (at-header-of (at-else2 (at-loop (at-header-of2 (c .before)))) .header-of .ensures) (omega arith) (at-else2 (at-loop (at-header-of2 (c .before))) .if2 .left) Numbers.not-der (l .inv ∙ element-read (h .ensures) qualifier true (omega arith) (omega arith) ∙ then-fault _ Numbers.not-der (sym (c .before .is-qualifier .ensures) ∙ when-no _ _ (not-true _ (c .if4 .taken)))))
 
 sub-left-2 : tie.Need-sub-left-2 Inv-loop μ-loop
-sub-left-2 c = c .before .before .before .before .header-of2 .ensures .fits
+sub-left-2 c = at-header-of2 (c .before) .header-of2 .ensures .fits
 
 part-left-start-2 : tie.Need-part-left-start-2 Inv-loop μ-loop
 part-left-start-2 c = search needs
@@ -80,19 +93,19 @@ part-left-end-2 c = search needs
 
 loop-less : tie.Need-loop-less Inv-loop μ-loop
 loop-less c =
-    let h = c .before .before .before .before .before .header-of2 in
-    omega (arith, left-length (c .before .before .before .before .before .before .before .loop .left .now) (h .result .end), h .ensures .fits, h .ensures .ordered)
+    let h = at-header-of2 (c .before .before) .header-of2 in
+    omega (arith, left-length (at-loop (at-header-of2 (c .before .before)) .loop .left .now) (h .result .end), h .ensures .fits, h .ensures .ordered)
 
 loop-again : tie.Need-loop-again Inv-loop μ-loop
 loop-again c =
-    let l = c .before .before .before .before .before .before .before .loop in
-    let h = c .before .before .before .before .before .header-of2 in
+    let l = at-loop (at-header-of2 (c .before .before)) .loop in
+    let h = at-header-of2 (c .before .before) .header-of2 in
     l .inv ∙ element-read (h .ensures) qualifier true (omega arith) (omega arith) ∙ then-fine _ true (sym (c .before .before .is-qualifier .ensures) ∙ when-yes _ _ (not-false _ (c .before .if4 .left)))
 
 returns-5 : tie.Need-returns-5 Inv-loop μ-loop
 returns-5 c =
     let l = c .before .loop in
-    let h = c .before .before .before .before .header-of in
+    let h = at-header-of (at-else2 (c .before)) .header-of in
     λ g. qualifiers-read g (h .ensures) (omega arith) (c .before .before .before .if2 .left) (l .inv ∙ all-none qualifier true (l .left .now) (omega arith))
 
 pub are-qualifiers-spec : {M : Type 1} → statement M

@@ -12,6 +12,25 @@ use borrow.Author.Needs.{needs}
 use Rattle.qualifiers.proofs.is_qualifier.Statement.{statement}
 use Rattle.qualifiers.proofs.is_qualifier.Tie as tie
 
+-- the states that the proofs below look back to
+abbrev start : tie.After-header-of → tie.Start
+start c = c .before .before
+
+abbrev at-header-of : tie.After-identifier → tie.After-header-of
+at-header-of c = c .before
+
+abbrev at-identifier : tie.Else1 → tie.After-identifier
+at-identifier c = c .before
+
+abbrev at-else1 : tie.After-struct-known → tie.Else1
+at-else1 c = c .before .before .before
+
+abbrev at-header-of-of-struct-known : tie.After-struct-known → tie.After-header-of
+at-header-of-of-struct-known c = at-header-of (at-identifier (at-else1 c))
+
+abbrev start-of-struct-known : tie.After-struct-known → tie.Start
+start-of-struct-known c = start (at-header-of-of-struct-known c)
+
 header-of-requires : tie.Need-header-of-requires
 header-of-requires c κs = search needs
 
@@ -35,19 +54,19 @@ any-header-requires c κs = search needs
 
 returns-2 : tie.Need-returns-2
 returns-2 c =
-    let h = c .before .before .before .before .before .before .header-of in
-    let s = c .before .before .before .before .before .before .before .before .args .s .now in
+    let h = at-header-of-of-struct-known (c .before) .header-of in
+    let s = start-of-struct-known (c .before) .args .s .now in
     when-no _ _ refl
-    ∙ sym (qualifier-after s _ (identifier-some (h .ensures) (c .before .before .before .before .before .identifier .ensures) (c .before .before .before .before .if1 .left))
+    ∙ sym (qualifier-after s _ (identifier-some (h .ensures) (at-identifier (at-else1 (c .before)) .identifier .ensures) (at-else1 (c .before) .if1 .left))
     ∙ then-fault _ Numbers.not-der (ap any-value (sym (left-is s (h .result .end))) ∙ header-none (c .before .before .any-header .ensures) (c .if2 .taken)))
 
 returns-3 : tie.Need-returns-3
 returns-3 c =
-    let h = c .before .before .before .before .before .before .before .header-of in
-    let s = c .before .before .before .before .before .before .before .before .before .args .s .now in
+    let h = at-header-of-of-struct-known (c .before .before) .header-of in
+    let s = start-of-struct-known (c .before .before) .args .s .now in
     let v = c .before .before .before .any-header in
     ended-at _ (v .result .end) _ (v .ensures .fits)
-    ∙ sym (qualifier-after s _ (identifier-some (h .ensures) (c .before .before .before .before .before .before .identifier .ensures) (c .before .before .before .before .before .if1 .left))
+    ∙ sym (qualifier-after s _ (identifier-some (h .ensures) (at-identifier (at-else1 (c .before .before)) .identifier .ensures) (at-else1 (c .before .before) .if1 .left))
     ∙ then-fine _ _ (ap any-value (sym (left-is s (h .result .end))) ∙ header-some (v .ensures) (omega arith)))
 
 pub is-qualifier-spec : {M : Type 1} → statement M
