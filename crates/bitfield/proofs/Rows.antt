@@ -5,12 +5,16 @@ use native.Mathlib.Numerals.{add-one}
 use native.Mathlib.Nat.{pow-suc, add-zero, add-suc, add-assoc, mul-assoc}
 use mathlib.Core.List.{List}
 use mathlib.Core.Path.{_≡_, refl, ap, sym, _∙_}
-use lib.Pow.{pow-mono, high, low, shr-shr, mod-pow-add, shl-exact}
+use lib.Pow.{pow-mono, pow-add, high, low, shr-shr, shl-shr, mod-pow-add, mod-mod-pow, shl-exact}
 use borrow.Author.Tests.{le-leb, lt-leb}
 use lib.ListN.{getD, length}
-use Rattle.bitfield.specs.Field.{field-at, window}
+use Rattle.bitfield.specs.Field.{field-at}
 use Rattle.bitfield.specs.declared.Field.the-variants.{Ended, Value}
 use Rattle.rules.specs.Bits.{bit, number, field}
+
+-- the bits of three bytes: a field of 16 bits that starts inside a byte ends within them
+abbrev pub window : ℕ
+window = 3 * 8
 
 number-zero : (f : ℕ → ℕ) (k : ℕ) → number f k 0 ≡ 0
 unfolding number
@@ -58,6 +62,13 @@ number-digits f k (suc w) x same =
 pub one-shifted : (w n : ℕ) → w < n → 1 * 2 ^ w % 2 ^ n ≡ 2 ^ w
 one-shifted w n h = shl-exact 1 w n (omega arith) (omega arith) ∙ omega arith
 
+-- j places on is n places on and then n - j back
+moved-on : (x j n : ℕ) → j ≤ n → x * 2 ^ j ≡ x * 2 ^ n / 2 ^ (n - j)
+moved-on x j n h =
+    let e : j + (n - j) ≡ n = omega arith in
+    sym (shl-shr (x * 2 ^ j) (n - j))
+    ∙ ap (λ (m : ℕ). m / 2 ^ (n - j)) (mul-assoc x (2 ^ j) (2 ^ (n - j)) ∙ ap (λ (p : ℕ). x * p) (sym (pow-add 2 j (n - j)) ∙ ap (λ (k : ℕ). 2 ^ k) e))
+
 module _ (s : List ℕ) where
   pub bit-below : (k : ℕ) → bit s k < 2
   unfolding bit
@@ -95,6 +106,18 @@ module _ (s : List ℕ) where
         ap (λ (k : ℕ). number (bit s) k 8) two ∙ byte-number (b + 2) h₂,
       )
 
+  -- the bits of n bytes that are x, or x and y, or x, y and z
+  pub one-byte : (b n : ℕ) {x : ℕ} → n ≡ 1 → x ≡ getD s b 0 → x < 2 ^ 8 → x ≡ number (bit s) (8 * b) (8 * n)
+  one-byte b n e f h = omega (arith, byte-number b (omega arith)) ∙ ap (λ (n : ℕ). number (bit s) (8 * b) (8 * n)) (sym e)
+
+  pub two-bytes : (b n : ℕ) {x y : ℕ} → n ≡ 2 → x ≡ getD s b 0 → y ≡ getD s (b + 1) 0 → x < 2 ^ 8 → y < 2 ^ 8 → x * 256 + y ≡ number (bit s) (8 * b) (8 * n)
+  two-bytes b n e f g h k = omega (arith, word-number b (omega arith) (omega arith)) ∙ ap (λ (n : ℕ). number (bit s) (8 * b) (8 * n)) (sym e)
+
+  pub three-bytes : (b n : ℕ) {x y z : ℕ} → n ≡ 3 → x ≡ getD s b 0 → y ≡ getD s (b + 1) 0 → z ≡ getD s (b + 2) 0 → x < 2 ^ 8 → y < 2 ^ 8 → z < 2 ^ 8
+      → (x * 256 + y) * 256 + z ≡ number (bit s) (8 * b) (8 * n)
+  three-bytes b n e f g h k l m =
+      omega (arith, window-number b (omega arith) (omega arith) (omega arith)) ∙ ap (λ (n : ℕ). number (bit s) (8 * b) (8 * n)) (sym e)
+
   -- a field of w bits that ends within the n bits from its first byte on
   pub field-within : (at w n : ℕ) → at % 8 + w ≤ n → number (bit s) (8 * (at / 8)) n / 2 ^ (n - (at % 8 + w)) % 2 ^ w ≡ field s at w
   unfolding field
@@ -111,10 +134,24 @@ module _ (s : List ℕ) where
       let after : 8 - at % 8 ≡ window - (at % 8 + 16) = omega arith in
       (λ i. e i / 2 ^ after i % 65536) ∙ field-within at 16 window (omega arith)
 
+  -- sixteen bits of which the third byte, the last that they may touch, is 0
+  pub word-ending : (at x y : ℕ) → x ≡ getD s (at / 8) 0 → y ≡ getD s (at / 8 + 1) 0 → getD s (at / 8 + 2) 0 ≡ 0 → x < 2 ^ 8 → y < 2 ^ 8
+      → (x * 256 + y) * 2 ^ (at % 8) % 2 ^ 32 % 65536 ≡ field s at 16
+  word-ending at x y e f z h k =
+      let front = x * 256 + y in
+      mod-mod-pow (front * 2 ^ (at % 8)) 16 16
+      ∙ ap (λ (n : ℕ). n % 65536) (moved-on front (at % 8) 8 (omega arith))
+      ∙ window-word at (front * 256) (omega (arith, window-number (at / 8) (omega arith) (omega arith) (omega arith)))
+
   -- a field that starts with a byte
   pub field-aligned : (at w : ℕ) → at % 8 ≡ 0 → number (bit s) (8 * (at / 8)) w ≡ field s at w
   unfolding field
   field-aligned at w h = let start : 8 * (at / 8) ≡ at = omega arith in ap (λ (k : ℕ). number (bit s) k w) start
+
+  -- a field of no bits
+  pub field-none : (at w : ℕ) → w ≡ 0 → field s at w ≡ 0
+  unfolding field
+  field-none at w e = ap (number (bit s) at) e ∙ number-zero (bit s) at
 
   pub field-fits : (at w n : ℕ) → w ≤ n → field s at w < 2 ^ n
   unfolding field

@@ -12,7 +12,3 @@ use Rattle.rules.specs.Bits.{field}
 unfoldable pub field-at : List ℕ → ℕ → ℕ → Field
 unfolding pick field
 field-at s at w = pick (leb (at + w) (8 * length s)) (Value (field s at w)) Ended
-
--- the bits read at once for a field: a field of 16 bits that starts inside a byte ends within three bytes
-abbrev pub window : ℕ
-window = 3 * 8

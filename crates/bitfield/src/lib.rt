@@ -3,7 +3,7 @@ ghost use mathlib.Core.Path.{_≡_};
 ghost use Prim.Native.Nat.{_+_, _*_, _/_, _%_, _^_, _≤_, _<_};
 ghost use lib.ListN.{length, getD};
 ghost use Rattle.rules.specs.Bits.{bit, number, field, put-field};
-ghost use Rattle.bitfield.specs.Field.{field-at, window};
+ghost use Rattle.bitfield.specs.Field.{field-at};
 
 // A field that was read, or that the slice ends inside or before it.
 pub enum Field {
@@ -11,51 +11,47 @@ pub enum Field {
     Value(u16),
 }
 
-// The bits read at once for a field: one of 16 bits that starts inside a byte ends within three bytes.
-const WINDOW: usize = 24;
-
-// A byte, 0 past the end.
-fn byte_at(s: &[u8], i: usize) -> u32
-    ensures { λ r. ⌜ (r ≡ getD (now (s .entry)) i 0) × (r < 2 ^ 8) ⌝ }
+fn word(b: u8) -> u32
+    ensures { λ r. ⌜ (r ≡ b) × (r < 2 ^ 8) ⌝ }
 {
-    if i < s.len() { s[i] as u32 } else { 0 }
+    b as u32
 }
 
-// The bits of the three bytes from byte `i` on.
-fn window_at(s: &[u8], i: usize) -> u32
-    requires { ⌜ i + 2 < 2 ^ 64 ⌝ }
-    ensures { λ r. ⌜ r ≡ number (bit (now (s .entry))) (8 * i) window ⌝ }
+// The bits of one, two or three bytes from byte `i` on, each fetched once.
+fn bytes_at(s: &[u8], i: usize, count: usize) -> u32
+    requires { ⌜ (0 < count) × (count ≤ 3) × (i + count ≤ length (now s)) ⌝ }
+    ensures { λ r. ⌜ r ≡ number (bit (now (s .entry))) (8 * i) (8 * count) ⌝ }
 {
-    byte_at(s, i) * 65536 + byte_at(s, i + 1) * 256 + byte_at(s, i + 2)
+    let one = word(s[i]);
+    if count == 1 {
+        return one;
+    }
+    let two = one * 256 + word(s[i + 1]);
+    if count == 2 {
+        return two;
+    }
+    two * 256 + word(s[i + 2])
 }
 
 // The field of `width` bits at bit position `at`. The slice ends first if it has fewer than `at + width` bits. The test counts
-// bytes, since neither the sum nor the slice's bits need fit a usize.
+// bytes, since neither the sum nor the slice's bits need fit a usize. The bytes that the field touches are fetched and no other:
+// none where it has no bits.
 pub fn read_field(s: &[u8], at: usize, width: usize) -> Field
     requires { ⌜ width ≤ 16 ⌝ }
     ensures { λ r. ⌜ r ≡ field-at (now (s .entry)) at width ⌝ }
 {
     let byte = at / 8;
     let end = at % 8 + width;
-    if s.len() < byte + (end + 7) / 8 {
+    let count = (end + 7) / 8;
+    if s.len() < byte + count {
         return Field::Ended;
     }
-    let bits = window_at(s, byte) >> (WINDOW - end);
+    if width == 0 {
+        return Field::Value(0);
+    }
+    let after = 7 - (end + 7) % 8;
+    let bits = bytes_at(s, byte, count) >> after;
     Field::Value((bits % (1 << width)) as u16)
-}
-
-// The sixteen bits from bit position `at` on, 0 past the end: one fetch for the small fields before a list, which are parts of them.
-pub fn peek(s: &[u8], at: usize) -> u16
-    ensures { λ r. ⌜ r ≡ field (now (s .entry)) at 16 ⌝ }
-{
-    let bits = window_at(s, at / 8) >> (8 - at % 8);
-    (bits % 65536) as u16
-}
-
-fn word(b: u8) -> u32
-    ensures { λ r. ⌜ (r ≡ b) × (r < 2 ^ 8) ⌝ }
-{
-    b as u32
 }
 
 // The field of sixteen bits at bit position `at`, all of it in the slice: each byte that it touches is fetched once.
@@ -70,6 +66,26 @@ pub fn read_word(s: &[u8], at: usize) -> u16
         return front as u16;
     }
     let bits = (front * 256 + word(s[i + 2])) >> (8 - before);
+    (bits % 65536) as u16
+}
+
+// A byte, 0 past the end.
+fn byte_at(s: &[u8], i: usize) -> u32
+    ensures { λ r. ⌜ (r ≡ getD (now (s .entry)) i 0) × (r < 2 ^ 8) ⌝ }
+{
+    if i < s.len() { s[i] as u32 } else { 0 }
+}
+
+// The sixteen bits from bit position `at` on, 0 past the end: one fetch for the small fields before a list, which are parts of
+// them. Within the last two bytes of the slice the third byte is past the end.
+pub fn peek(s: &[u8], at: usize) -> u16
+    ensures { λ r. ⌜ r ≡ field (now (s .entry)) at 16 ⌝ }
+{
+    let i = at / 8;
+    if i + 2 < s.len() {
+        return read_word(s, at);
+    }
+    let bits = (byte_at(s, i) * 256 + byte_at(s, i + 1)) << (at % 8);
     (bits % 65536) as u16
 }
 

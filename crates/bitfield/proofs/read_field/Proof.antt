@@ -1,39 +1,50 @@
--- `bitfield::read_field` meets its contract: the window holds the field, with some bits before it and some after it. Assumes nothing.
+-- `bitfield::read_field` meets its contract: the bytes that the field touches hold it, with some bits before it and some after it.
 use native.Mathlib.Omega.{arith}
+use mathlib.Core.List.{List}
 use mathlib.Core.Path.{_≡_, _∙_, sym, ap}
-use Prim.Native.Nat.{_+_, _-_, _*_, _/_, _%_, _^_}
+use Prim.Native.Nat.{ℕ, _≤_, _+_, _-_, _*_, _/_, _%_, _^_}
 use lib.Pow.{pow-pos}
-use Rattle.rules.specs.Bits.{field}
-use Rattle.bitfield.specs.Field.{window}
+use Rattle.rules.specs.Bits.{bit, number, field}
 use Rattle.bitfield.specs.declared.Field.the-variants.{Value}
-use Rattle.bitfield.proofs.Rows.{field-within, field-fits, field-inside, field-past, one-shifted}
+use Rattle.bitfield.proofs.Rows.{field-within, field-none, field-fits, field-inside, field-past, one-shifted}
 use borrow.Author.Needs.{needs}
 use Rattle.bitfield.proofs.read_field.Statement.{statement}
 use Rattle.bitfield.proofs.read_field.Tie as tie
 
--- the bits of the window at the field's place, none of another field
-value : (c : tie.After-window-at) → c .window-at .result / 2 ^ (window - (c .before .before .before .args .at % 8 + c .before .before .before .args .width)) % (1 * 2 ^ c .before .before .before .args .width % 2 ^ 32) ≡ field (c .before .before .before .args .s .now) (c .before .before .before .args .at) (c .before .before .before .args .width)
-value c =
-    let a = c .before .before .before .args in
-    rw (c .window-at .ensures, one-shifted (a .width) 32 (omega arith)) (field-within (a .s .now) (a .at) (a .width) window (omega arith))
+abbrev start : tie.After-bytes-at → tie.Start
+start c = c .before .before .before .before
+
+-- the bits of the bytes at the field's place, none of another field
+value : (s : List ℕ) (at w : ℕ) {x : ℕ} → w ≤ 16 → x ≡ number (bit s) (8 * (at / 8)) (8 * ((at % 8 + w + 7) / 8))
+    → x / 2 ^ (7 - (at % 8 + w + 7) % 8) % (1 * 2 ^ w % 2 ^ 32) ≡ field s at w
+value s at w h e =
+    let bits = 8 * ((at % 8 + w + 7) / 8) in
+    let after : 7 - (at % 8 + w + 7) % 8 ≡ bits - (at % 8 + w) = omega arith in
+    rw (e, after, one-shifted w 32 (omega arith)) (field-within s at w bits (omega arith))
 
 add-end : tie.Need-add-end
 add-end c = search needs
 
+add-count : tie.Need-add-count
+add-count c = search needs
+
 add-if1 : tie.Need-add-if1
 add-if1 c = search needs
-
-add-if1-2 : tie.Need-add-if1-2
-add-if1-2 c = search needs
 
 returns : tie.Need-returns
 returns c = sym (field-past _ _ _ (omega arith))
 
-window-at-requires : tie.Need-window-at-requires
-window-at-requires c κs = search needs
+returns-2 : tie.Need-returns-2
+returns-2 c = ap Value (sym (field-none _ _ _ (c .if2 .taken))) ∙ sym (field-inside _ _ _ (omega arith))
 
-sub-bits : tie.Need-sub-bits
-sub-bits c = search needs
+add-after : tie.Need-add-after
+add-after c = search needs
+
+sub-after : tie.Need-sub-after
+sub-after c = search needs
+
+bytes-at-requires : tie.Need-bytes-at-requires
+bytes-at-requires c κs = search needs
 
 cast-bits : tie.Need-cast-bits
 cast-bits c = search needs
@@ -48,28 +59,30 @@ shl-t13 : tie.Need-shl-t13
 shl-t13 c = search needs
 
 rem-t14 : tie.Need-rem-t14
-rem-t14 c = rw (one-shifted (c .before .before .before .args .width) 32 (omega arith)) (pow-pos _)
+rem-t14 c = rw (one-shifted (start c .args .width) 32 (omega arith)) (pow-pos _)
 
 cast-t15 : tie.Need-cast-t15
-cast-t15 c = record { fits = rw (value c) (field-fits _ _ _ _ (c .before .before .before .pre)) }
+cast-t15 c = record { fits = rw (value _ _ _ (start c .pre) (c .bytes-at .ensures)) (field-fits _ _ _ _ (start c .pre)) }
 
-returns-2 : tie.Need-returns-2
-returns-2 c = ap Value (value c) ∙ sym (field-inside _ _ _ (omega arith))
+returns-3 : tie.Need-returns-3
+returns-3 c = ap Value (value _ _ _ (start c .pre) (c .bytes-at .ensures)) ∙ sym (field-inside _ _ _ (omega arith))
 
 pub read-field-spec : {M : Type 1} → statement M
 read-field-spec =
     tie.close
     (tie.spec
     add-end
+    add-count
     add-if1
-    add-if1-2
     returns
-    window-at-requires
-    sub-bits
+    returns-2
+    add-after
+    sub-after
+    bytes-at-requires
     cast-bits
     shr-bits
     cast-t12
     shl-t13
     rem-t14
     cast-t15
-    returns-2)
+    returns-3)
