@@ -15,7 +15,7 @@ use reference::everyday::{self, Everyday};
 use reference::extensions;
 use reference::harm::HARMS;
 use reference::judge::{self, Writing, Written};
-use reference::path::Path;
+use reference::path::{Certificate, Path};
 use reference::random::{self, Full, Random, FULL_KINDS};
 use reference::random_extensions::{self, Input};
 use reference::{record, register, sheet, tree};
@@ -237,7 +237,14 @@ fn full_paths(kinds: &[Full], n: usize, random: &mut Random) -> Vec<Path> {
 /// A row: its first cells, then both times and their ratio.
 fn print_row(first: &[String], times: &Times) {
     let (first, ratio) = (first.join(" | "), times.proved / times.plain);
-    println!("| {first} | {:.2} | {:.2} | {ratio:.2} |", times.plain, times.proved);
+    let [plain, proved] = [times.plain, times.proved].map(microseconds);
+    println!("| {first} | {plain} | {proved} | {ratio:.2} |");
+}
+
+/// A time as it is printed: in thousandths below 1, else in hundredths.
+fn microseconds(time: f64) -> String {
+    let decimals = if time < 1.0 { 3 } else { 2 };
+    format!("{time:.decimals$}")
 }
 
 /// The head over such rows.
@@ -342,20 +349,32 @@ fn small_to_full(random: &mut Random) -> Vec<Named> {
     paths
 }
 
+/// Ten certificates of small fields alone: flags and skip values, and no list.
+fn small_fields() -> Named {
+    let certificate = Certificate {
+        self_issued: true,
+        require_explicit_policy: Some(10),
+        inhibit_policy_mapping: Some(100),
+        inhibit_any_policy: Some(200),
+        ..Certificate::default()
+    };
+    let path = Path { certificates: vec![certificate; 10], ..Path::default() };
+    ("10 x 0, skip values".to_string(), path)
+}
+
 /// The longest path of a kind.
 fn full_path(kind: Full, random: &mut Random) -> Named {
     (format!("10 x 16, full, {kind:?}"), random::full(kind, 10, random))
 }
 
 /// The table of reading and writing alone.
-fn print_codec(paths: &[Named]) {
+fn print_codec<'a>(paths: impl Iterator<Item = &'a Named>) {
     println!(
         "\nReading and writing alone, with no judging. Reading is from a sheet to a record of"
     );
-    println!("numbers (include/judge.h), writing from a record to a sheet, both from a sheet to a");
-    println!(
-        "sheet. The plain code returns new vectors, the proved code writes into lent slices:\n"
-    );
+    println!("numbers (skandrulo_read_record), writing from a record to a sheet");
+    println!("(skandrulo_write_record), both from a sheet to a sheet (skandrulo_rewrite_sheet). The");
+    println!("plain code returns new vectors, the proved code writes into lent slices:\n");
     print_head(&["sheet", "bytes", "operation"]);
     for (name, path) in paths {
         let bytes = sheet::write(path).len().to_string();
@@ -424,7 +443,7 @@ fn main() {
     print_everyday();
     print_harm(&mut random);
     let mut paths = small_to_full(&mut random);
-    print_codec(&paths);
+    print_codec(paths.iter().chain([&small_fields()]));
     paths.push(full_path(Full::Any, &mut random));
     print_records(&paths);
     print_extensions(&mut random);
