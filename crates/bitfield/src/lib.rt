@@ -77,7 +77,7 @@ fn byte_at(s: &[u8], i: usize) -> u32
 }
 
 // The sixteen bits from bit position `at` on, 0 past the end: one fetch for the small fields before a list, which are parts of
-// them. Within the last two bytes of the slice the third byte is past the end.
+// them. Where fewer than three bytes are left, the third is past the end.
 pub fn peek(s: &[u8], at: usize) -> u16
     ensures { λ r. ⌜ r ≡ field (now (s .entry)) at 16 ⌝ }
 {
