@@ -373,7 +373,9 @@ fn print_codec<'a>(paths: impl Iterator<Item = &'a Named>) {
         "\nReading and writing alone, with no judging. Reading is from a sheet to a record of"
     );
     println!("numbers (skandrulo_read_record), writing from a record to a sheet");
-    println!("(skandrulo_write_record), both from a sheet to a sheet (skandrulo_rewrite_sheet). The");
+    println!(
+        "(skandrulo_write_record), both from a sheet to a sheet (skandrulo_rewrite_sheet). The"
+    );
     println!("plain code returns new vectors, the proved code writes into lent slices:\n");
     print_head(&["sheet", "bytes", "operation"]);
     for (name, path) in paths {

@@ -1,6 +1,5 @@
 -- `bitfield::peek` meets its contract: where three bytes are left it is `read_word`, else the third byte is 0.
 use lib.ListN.{List·getD-eq-default}
-use native.Mathlib.Omega.{arith}
 use Rattle.bitfield.proofs.Rows.{word-ending}
 use borrow.Author.Needs.{needs}
 use Rattle.bitfield.proofs.peek.Statement.{statement}
