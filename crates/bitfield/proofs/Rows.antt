@@ -135,11 +135,12 @@ module _ (s : List ℕ) where
       (λ i. e i / 2 ^ after i % 65536) ∙ field-within at 16 window (omega arith)
 
   -- sixteen bits of which the third byte, the last that they may touch, is 0
-  pub word-ending : (at x y : ℕ) → x ≡ getD s (at / 8) 0 → y ≡ getD s (at / 8 + 1) 0 → getD s (at / 8 + 2) 0 ≡ 0 → x < 2 ^ 8 → y < 2 ^ 8
-      → (x * 256 + y) * 2 ^ (at % 8) % 2 ^ 32 % 65536 ≡ field s at 16
-  word-ending at x y e f z h k =
+  pub word-ending : (at x y : ℕ) {place : ℕ} → place ≡ at % 8 → x ≡ getD s (at / 8) 0 → y ≡ getD s (at / 8 + 1) 0 → getD s (at / 8 + 2) 0 ≡ 0 → x < 2 ^ 8 → y < 2 ^ 8
+      → (x * 256 + y) * 2 ^ place % 2 ^ 32 % 65536 ≡ field s at 16
+  word-ending at x y d e f z h k =
       let front = x * 256 + y in
-      mod-mod-pow (front * 2 ^ (at % 8)) 16 16
+      ap (λ (n : ℕ). front * 2 ^ n % 2 ^ 32 % 65536) d
+      ∙ mod-mod-pow (front * 2 ^ (at % 8)) 16 16
       ∙ ap (λ (n : ℕ). n % 65536) (moved-on front (at % 8) 8 (omega arith))
       ∙ window-word at (front * 256) (omega (arith, window-number (at / 8) (omega arith) (omega arith) (omega arith)))
 

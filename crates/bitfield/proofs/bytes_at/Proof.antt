@@ -12,7 +12,7 @@ word-requires : tie.Need-word-requires
 word-requires c κs = search needs
 
 returns : tie.Need-returns
-returns c = let x = c .before .word .ensures in one-byte _ _ _ (c .if1 .taken) (x .0) (x .1)
+returns c = let x = c .before .word .ensures in one-byte _ _ _ (omega arith) (x .0) (x .1)
 
 mul-two : tie.Need-mul-two
 mul-two c = search needs
@@ -33,7 +33,7 @@ returns-2 : tie.Need-returns-2
 returns-2 c =
     let x = c .before .before .before .before .word .ensures in
     let y = c .before .word2 .ensures in
-    two-bytes _ _ _ (c .if2 .taken) (x .0) (y .0) (x .1) (y .1)
+    two-bytes _ _ _ (omega arith) (x .0) (y .0) (x .1) (y .1)
 
 mul-result : tie.Need-mul-result
 mul-result c = search needs

@@ -1,4 +1,5 @@
 -- `bitfield::peek` meets its contract: where three bytes are left it is `read_word`, else the third byte is 0.
+use native.Mathlib.Omega.{arith}
 use lib.ListN.{List·getD-eq-default}
 use Rattle.bitfield.proofs.Rows.{word-ending}
 use borrow.Author.Needs.{needs}
@@ -43,7 +44,7 @@ returns-2 c =
     let a = c .before .before .before .before .args in
     let x = c .before .byte-at .ensures in
     let y = c .byte-at2 .ensures in
-    word-ending (a .s .now) (a .at) _ _ (x .0) (y .0) (List·getD-eq-default (a .s .now) 0 (c .before .before .if1 .left)) (x .1) (y .1)
+    word-ending (a .s .now) (a .at) _ _ (omega arith) (x .0) (y .0) (List·getD-eq-default (a .s .now) 0 (c .before .before .if1 .left)) (x .1) (y .1)
 
 pub peek-spec : {M : Type 1} → statement M
 peek-spec =

@@ -2,7 +2,7 @@
 use native.Mathlib.Omega.{arith}
 use mathlib.Core.List.{List}
 use mathlib.Core.Path.{_≡_, _∙_, sym, ap}
-use Prim.Native.Nat.{ℕ, _≤_, _+_, _-_, _*_, _/_, _%_, _^_}
+use Prim.Native.Nat.{ℕ, _≤_, _<_, _+_, _-_, _*_, _/_, _%_, _^_}
 use lib.Pow.{pow-pos}
 use Rattle.rules.specs.Bits.{bit, number, field}
 use Rattle.bitfield.specs.declared.Field.the-variants.{Value}
@@ -15,12 +15,12 @@ abbrev start : tie.After-bytes-at → tie.Start
 start c = c .before .before .before .before
 
 -- the bits of the bytes at the field's place, none of another field
-value : (s : List ℕ) (at w : ℕ) {x : ℕ} → w ≤ 16 → x ≡ number (bit s) (8 * (at / 8)) (8 * ((at % 8 + w + 7) / 8))
-    → x / 2 ^ (7 - (at % 8 + w + 7) % 8) % (1 * 2 ^ w % 2 ^ 32) ≡ field s at w
-value s at w h e =
-    let bits = 8 * ((at % 8 + w + 7) / 8) in
-    let after : 7 - (at % 8 + w + 7) % 8 ≡ bits - (at % 8 + w) = omega arith in
-    rw (e, after, one-shifted w 32 (omega arith)) (field-within s at w bits (omega arith))
+module _ (s : List ℕ) (at w : ℕ) {x after : ℕ} (narrow : w ≤ 16) (rest : after ≡ 8 * ((at % 8 + w + 7) / 8) - (at % 8 + w)) (e : x ≡ number (bit s) (8 * (at / 8)) (8 * ((at % 8 + w + 7) / 8))) where
+  value : x / 2 ^ after % (1 * 2 ^ w % 2 ^ 32) ≡ field s at w
+  value = rw (e, rest, one-shifted w 32 (omega arith)) (field-within s at w (8 * ((at % 8 + w + 7) / 8)) (omega arith))
+
+  value-fits : x / 2 ^ after % (1 * 2 ^ w % 2 ^ 32) < 2 ^ 16
+  value-fits = rw value (field-fits s at w 16 narrow)
 
 add-end : tie.Need-add-end
 add-end c = search needs
@@ -62,10 +62,10 @@ rem-t14 : tie.Need-rem-t14
 rem-t14 c = rw (one-shifted (start c .args .width) 32 (omega arith)) (pow-pos _)
 
 cast-t15 : tie.Need-cast-t15
-cast-t15 c = record { fits = rw (value _ _ _ (start c .pre) (c .bytes-at .ensures)) (field-fits _ _ _ _ (start c .pre)) }
+cast-t15 c = record { fits = value-fits _ _ _ (start c .pre) (omega arith) (c .bytes-at .ensures) }
 
 returns-3 : tie.Need-returns-3
-returns-3 c = ap Value (value _ _ _ (start c .pre) (c .bytes-at .ensures)) ∙ sym (field-inside _ _ _ (omega arith))
+returns-3 c = ap Value (value _ _ _ (start c .pre) (omega arith) (c .bytes-at .ensures)) ∙ sym (field-inside _ _ _ (omega arith))
 
 pub read-field-spec : {M : Type 1} → statement M
 read-field-spec =
