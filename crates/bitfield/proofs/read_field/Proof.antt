@@ -35,7 +35,7 @@ returns : tie.Need-returns
 returns c = sym (field-past _ _ _ (omega arith))
 
 returns-2 : tie.Need-returns-2
-returns-2 c = ap Value (sym (field-none _ _ _ (c .if2 .taken))) ∙ sym (field-inside _ _ _ (omega arith))
+returns-2 c = ap Value (sym (field-none _ _ _ (omega arith))) ∙ sym (field-inside _ _ _ (omega arith))
 
 add-after : tie.Need-add-after
 add-after c = search needs
