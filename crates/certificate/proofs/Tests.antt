@@ -10,6 +10,7 @@ use Rattle.rules.specs.Sets.{pick, _∈_, some-of}
 use Rattle.rules.specs.Paths.{Mapping, Certificate, any}
 use Rattle.rules.specs.Counters.{Counters}
 use Rattle.rules.specs.Answers.{any-allowed, maps-any}
+use Rattle.rules.specs.Graph.{test-9}
 use Rattle.laws.proofs.Sets.{some-same, some-or, mem-map, eqb-sym}
 use Rattle.levels.proofs.Levels.{none}
 use Rattle.names.specs.Places.{at, Names, Within, Pairs}
@@ -18,7 +19,7 @@ use Rattle.places.specs.Mapped.{certificate-map}
 use Rattle.rows.specs.Read.{Small, level-of}
 use Rattle.rows.proofs.Places.{mem-any}
 use Rattle.rows.proofs.Counts.{none-is}
-use Rattle.certificate.specs.Entered.{allowed, fault-of}
+use Rattle.certificate.specs.Entered.{allowed, mapping-fault, fault-of}
 
 -- whether some pair has anyPolicy on a side
 some-side : (side : Mapping → ℕ) (ms : List Mapping) → some-of (λ m. eqb (side m) any) ms ≡ any ∈ map side ms
@@ -48,7 +49,7 @@ module _ (names : List ℕ) (N : Names names) where
         (some-side (λ m. m .subject) ms ∙ ap (λ xs. any ∈ xs) (subjects-named (c .mappings)) ∙ mem-any names N (subjected c) (pairs .subjects)))
 
     -- tests 8 and 9
-    pub fault-same : (explicit : ℕ) (r : List ℕ) → length r ≡ length names → Small r
-        → fault-of explicit r (issued c) (subjected c) ≡ pick (eqb explicit 0 && none (level-of names r)) Numbers.no-graph (pick (maps-any (certificate-map (at names) c)) Numbers.any-mapped 0)
-    unfolding fault-of
-    fault-same explicit r l s = ap₂ (λ a b. pick (eqb explicit 0 && a) Numbers.no-graph (pick b Numbers.any-mapped 0)) (none-is names N r l s) maps-same
+    pub fault-same : (last : Bool) (explicit : ℕ) (r : List ℕ) → length r ≡ length names → Small r
+        → fault-of last explicit r (issued c) (subjected c) ≡ pick (eqb explicit 0 && none (level-of names r)) Numbers.no-graph (pick (test-9 last (certificate-map (at names) c)) Numbers.any-mapped 0)
+    unfolding fault-of test-9
+    fault-same last explicit r l s = ap₂ (λ a b. pick (eqb explicit 0 && a) Numbers.no-graph (pick (not last && b) Numbers.any-mapped 0)) (none-is names N r l s) maps-same

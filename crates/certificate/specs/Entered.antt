@@ -18,7 +18,12 @@ unfoldable pub entered : Bool → ℕ → Bool → Certificate → List ℕ → 
 unfolding allowed new-row
 entered last any above c expected r = new-row (allowed last any (c .self-issued) (c .policies)) above (c .policies) expected r
 
--- tests 8 and 9, in this order, 0 where a certificate whose row is r passes both
-unfoldable pub fault-of : ℕ → List ℕ → List ℕ → List ℕ → ℕ
+-- test 9, 0 where a certificate passes it; last where i is n
+unfoldable pub mapping-fault : Bool → List ℕ → List ℕ → ℕ
 unfolding pick _∈_
-fault-of explicit r issuers subjects = pick (eqb explicit 0 && eqb (nodes r) 0) Numbers.no-graph (pick (0 ∈ issuers || 0 ∈ subjects) Numbers.any-mapped 0)
+mapping-fault last issuers subjects = pick (not last && (0 ∈ issuers || 0 ∈ subjects)) Numbers.any-mapped 0
+
+-- tests 8 and 9, in this order, 0 where a certificate whose row is r passes both
+unfoldable pub fault-of : Bool → ℕ → List ℕ → List ℕ → List ℕ → ℕ
+unfolding pick mapping-fault
+fault-of last explicit r issuers subjects = pick (eqb explicit 0 && eqb (nodes r) 0) Numbers.no-graph (mapping-fault last issuers subjects)

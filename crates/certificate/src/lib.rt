@@ -1,17 +1,15 @@
 // One certificate on its row: its policies, tests 8 and 9, its mappings, and the counters after it.
-ghost use mathlib.Core.Bool.{false, _||_};
+ghost use mathlib.Core.Bool.{false};
 ghost use mathlib.Core.Path.{_≡_};
 ghost use Prim.Native.Nat.{_<_};
 ghost use lib.ListN.{length};
-ghost use Rattle.rules.specs.Numbers as Numbers;
-ghost use Rattle.rules.specs.Sets.{pick, _∈_};
 ghost use Rattle.rules.specs.Counters as rule;
 ghost use Rattle.counters.specs.Counted.{counted};
 ghost use Rattle.record.specs.Record.{issued, subjected, packed-certificate};
 ghost use Rattle.record.specs.Puts.{Stands};
 ghost use Rattle.places.specs.Numbered.{certificate-at, HeldAt};
 ghost use Rattle.rows.specs.Row.{map-row, expect};
-ghost use Rattle.certificate.specs.Entered.{allowed, entered, fault-of};
+ghost use Rattle.certificate.specs.Entered.{allowed, entered, mapping-fault, fault-of};
 use counters::Counters;
 use counters::after;
 use policies::expect;
@@ -47,11 +45,13 @@ fn any_allowed(last: bool, any: usize, self_issued: bool, policies: &[u16]) -> b
     }
 }
 
-// Test 9: a mapping names anyPolicy, as issuer or as subject.
-fn mapping_fault(issuers: &[u16], subjects: &[u16]) -> u8
-    ensures { λ r. ⌜ r ≡ pick (0 ∈ now (issuers .entry) || 0 ∈ now (subjects .entry)) Numbers.any-mapped 0 ⌝ }
+// Test 9, of each certificate but the last: a mapping names anyPolicy, as issuer or as subject.
+fn mapping_fault(last: bool, issuers: &[u16], subjects: &[u16]) -> u8
+    ensures { λ r. ⌜ r ≡ mapping-fault last (now (issuers .entry)) (now (subjects .entry)) ⌝ }
 {
-    if lists(issuers, 0) {
+    if last {
+        0
+    } else if lists(issuers, 0) {
         ANY_MAPPED
     } else if lists(subjects, 0) {
         ANY_MAPPED
@@ -61,18 +61,18 @@ fn mapping_fault(issuers: &[u16], subjects: &[u16]) -> u8
 }
 
 // Test 8, then test 9, of a certificate whose row is `row`.
-fn fault(explicit: usize, row: &[u8], issuers: &[u16], subjects: &[u16]) -> u8
+fn fault(last: bool, explicit: usize, row: &[u8], issuers: &[u16], subjects: &[u16]) -> u8
     requires { ⌜ length (now row) < 65536 ⌝ }
-    ensures { λ r. ⌜ r ≡ fault-of explicit (now (row .entry)) (now (issuers .entry)) (now (subjects .entry)) ⌝ }
+    ensures { λ r. ⌜ r ≡ fault-of last explicit (now (row .entry)) (now (issuers .entry)) (now (subjects .entry)) ⌝ }
 {
     if explicit == 0 {
         if size(row) == 0 {
             NO_GRAPH
         } else {
-            mapping_fault(issuers, subjects)
+            mapping_fault(last, issuers, subjects)
         }
     } else {
-        mapping_fault(issuers, subjects)
+        mapping_fault(last, issuers, subjects)
     }
 }
 
@@ -90,13 +90,19 @@ pub fn enter(
     requires { ⌜ length (now expected) ≡ length (now row) ⌝ }
     requires { ⌜ length (now row) < 65536 ⌝ }
     ensures { λ r. ⌜ now (row .exit) ≡ entered last (k .any) «any_above» (certificate-at (now (rec .entry)) at) (now (expected .entry)) (now (row .entry)) ⌝ }
-    ensures { λ r. ⌜ r ≡ fault-of (k .explicit) (now (row .exit)) (issued (certificate-at (now (rec .entry)) at)) (subjected (certificate-at (now (rec .entry)) at)) ⌝ }
+    ensures { λ r. ⌜ r ≡ fault-of last (k .explicit) (now (row .exit)) (issued (certificate-at (now (rec .entry)) at)) (subjected (certificate-at (now (rec .entry)) at)) ⌝ }
 {
     let policies = policies_at(rec, at);
     let self_issued = flag_at(rec, at, SELF_ISSUED);
     let allowed = any_allowed(last, k.any, self_issued, policies);
     new_row(allowed, any_above, policies, expected, row);
-    fault(k.explicit, row, issuers_at(rec, at), subjects_at(rec, at))
+    fault(
+        last,
+        k.explicit,
+        row,
+        issuers_at(rec, at),
+        subjects_at(rec, at),
+    )
 }
 
 // The mappings of the certificate at place `at`, which is not the last: its row, and what its nodes then expect.
@@ -139,7 +145,7 @@ pub fn pass(
     requires { ⌜ length (now expected) ≡ length (now row) ⌝ }
     requires { ⌜ length (now row) < 65536 ⌝ }
     requires { ⌜ 0 < length (now row) ⌝ }
-    ensures { λ r. ⌜ r ≡ fault-of (k .explicit) (entered false (k .any) «any_above» (certificate-at (now (rec .entry)) at) (now (expected .entry)) (now (row .entry))) (issued (certificate-at (now (rec .entry)) at)) (subjected (certificate-at (now (rec .entry)) at)) ⌝ }
+    ensures { λ r. ⌜ r ≡ fault-of false (k .explicit) (entered false (k .any) «any_above» (certificate-at (now (rec .entry)) at) (now (expected .entry)) (now (row .entry))) (issued (certificate-at (now (rec .entry)) at)) (subjected (certificate-at (now (rec .entry)) at)) ⌝ }
     ensures { λ r. ⌜ (r ≡ 0 → now (row .exit) ≡ map-row (k .mapping) (issued (certificate-at (now (rec .entry)) at)) (entered false (k .any) «any_above» (certificate-at (now (rec .entry)) at) (now (expected .entry)) (now (row .entry)))) ⌝ }
     ensures { λ r. ⌜ (r ≡ 0 → now (expected .exit) ≡ expect (issued (certificate-at (now (rec .entry)) at)) (subjected (certificate-at (now (rec .entry)) at)) (now (row .exit)) (now (expected .entry))) ⌝ }
 {

@@ -10,7 +10,7 @@ given n u us cs = n ∷ 0 ∷ 0 ∷ 0 ∷ u ∷ us ++ cs
 unfoldable pub listing : ℕ → ℕ → List ℕ → List ℕ
 listing p m ls = 0 ∷ p ∷ m ∷ 0 ∷ 0 ∷ 0 ∷ ls
 
--- the records of cases A, D, E and H with user 51, and one whose certificate maps anyPolicy
+-- the records of cases A, D, E and H with user 51, and one whose first certificate, of two, maps anyPolicy
 unfoldable pub record-A : List ℕ
 record-A = 2 ∷ 0 ∷ 0 ∷ 0 ∷ 1 ∷ 1 ∷ 0 ∷ 3 ∷ 2 ∷ 0 ∷ 0 ∷ 0 ∷ 11 ∷ 12 ∷ 15 ∷ 11 ∷ 11 ∷ 13 ∷ 14 ∷ 0 ∷ 3 ∷ 0 ∷ 0 ∷ 0 ∷ 0 ∷ 12 ∷ 13 ∷ 16 ∷ []
 
@@ -24,4 +24,4 @@ unfoldable pub record-H : List ℕ
 record-H = 2 ∷ 0 ∷ 1 ∷ 0 ∷ 1 ∷ 51 ∷ 0 ∷ 1 ∷ 1 ∷ 0 ∷ 0 ∷ 0 ∷ 1 ∷ 50 ∷ 51 ∷ 0 ∷ 1 ∷ 0 ∷ 0 ∷ 0 ∷ 0 ∷ 51 ∷ []
 
 unfoldable pub record-mapped : List ℕ
-record-mapped = 1 ∷ 0 ∷ 0 ∷ 0 ∷ 0 ∷ 0 ∷ 1 ∷ 1 ∷ 0 ∷ 0 ∷ 0 ∷ 70 ∷ 1 ∷ 71 ∷ []
+record-mapped = 2 ∷ 0 ∷ 0 ∷ 0 ∷ 0 ∷ 0 ∷ 1 ∷ 1 ∷ 0 ∷ 0 ∷ 0 ∷ 70 ∷ 1 ∷ 71 ∷ 0 ∷ 1 ∷ 0 ∷ 0 ∷ 0 ∷ 0 ∷ 70 ∷ []

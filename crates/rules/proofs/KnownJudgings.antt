@@ -10,7 +10,7 @@ use Rattle.rules.specs.declared.Path.{Path as StoredPath}
 use Rattle.rules.specs.Graph as Graph
 use Rattle.rules.specs.Tree as Tree
 use Rattle.rules.specs.Judge.{Outcome, outcome, sheet-judged, path-judged}
-use Rattle.rules.proofs.Notation.{filled, stored-plain, stored-path, sheet-A, sheet-D, sheet-E, sheet-H, sheet-K}
+use Rattle.rules.proofs.Notation.{filled, stored-plain, stored-path, sheet-A, sheet-D, sheet-E, sheet-H, sheet-K, sheet-mapped}
 
 -- what is handed over, the two tables at entry, and the outcome expected
 pub record Row (A : Type 0) : Type 0 where
@@ -35,7 +35,7 @@ unfolding row filled
 verdict x a u k i ns as′ us′ = row x a u k i (filled 11 0 ns) (filled a 0 as′) (filled u 0 us′)
 
 unfoldable pub sheet-rows : List (Row (List ℕ))
-unfolding verdict refusal row sheet-A sheet-D sheet-E sheet-H sheet-K
+unfolding verdict refusal row sheet-A sheet-D sheet-E sheet-H sheet-K sheet-mapped
 sheet-rows =
     -- 0 with tables of 304 places: the counts, and each set first and then zeros
     verdict sheet-A 304 304 0 0 (1 ∷ 2 ∷ 2 ∷ []) (11 ∷ 12 ∷ []) (11 ∷ 12 ∷ [])
@@ -46,7 +46,9 @@ sheet-rows =
     -- 8: both tables and the counts are all zero
     ∷ verdict sheet-D 304 305 8 1 [] [] []
     -- 9: both tables and the counts are all zero
-    ∷ verdict sheet-K 305 304 9 1 [] [] []
+    ∷ verdict sheet-mapped 305 304 9 1 [] [] []
+    -- 0 where the last certificate maps anyPolicy
+    ∷ verdict sheet-K 304 304 0 0 (1 ∷ 1 ∷ []) (70 ∷ []) (70 ∷ [])
     -- a refusal leaves both tables: empty input
     ∷ refusal [] 304 305 1
     -- a refusal leaves both tables: edition 2
@@ -91,7 +93,7 @@ path-rows =
     ∷ verdict (decoded true 1 (51 ∷ []) 2 (stored-plain 1 (1 ∷ []) 1 (50 ∷ []) (51 ∷ []) ∷ stored-plain 1 (51 ∷ []) 0 [] [] ∷ [])) 306 305 10 2 (1 ∷ 1 ∷ 1 ∷ []) (50 ∷ []) []
     -- 8 and 9: both tables and the counts are all zero
     ∷ verdict (decoded true 0 [] 1 (stored-plain 0 [] 0 [] [] ∷ [])) 304 305 8 1 [] [] []
-    ∷ verdict (decoded false 0 [] 1 (stored-plain 1 (70 ∷ []) 1 (1 ∷ []) (71 ∷ []) ∷ [])) 305 304 9 1 [] [] []
+    ∷ verdict (decoded false 0 [] 2 (stored-plain 1 (70 ∷ []) 1 (1 ∷ []) (71 ∷ []) ∷ stored-plain 1 (70 ∷ []) 0 [] [] ∷ [])) 305 304 9 1 [] [] []
     -- the refusals 3, 4 and 5 leave both tables
     ∷ refusal (decoded false 0 [] 0 []) 304 305 3
     ∷ refusal (decoded false 1 (0 ∷ []) 1 (stored-plain 0 [] 0 [] [] ∷ [])) 304 305 4

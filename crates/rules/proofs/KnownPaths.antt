@@ -51,7 +51,7 @@ rows =
     -- J
     ∷ row true true false (1 ∷ []) (plain (60 ∷ []) (60 to 61 ∷ []) ∷ plain (60 ∷ 61 ∷ []) [] ∷ []) 8 2 [] [] []
     -- K
-    ∷ row false false false (1 ∷ []) (plain (70 ∷ []) (1 to 71 ∷ []) ∷ []) 9 1 [] [] []
+    ∷ row false false false (1 ∷ []) (plain (70 ∷ []) (1 to 71 ∷ []) ∷ []) 0 0 (1 ∷ 1 ∷ []) (70 ∷ []) (70 ∷ [])
     -- L, requireExplicitPolicy 0
     ∷ row false false false (1 ∷ []) (certificate false [] [] (Certificates 0) Absent Absent ∷ []) 10 1 (0 ∷ 0 ∷ []) [] []
     -- L, requireExplicitPolicy 1
@@ -83,17 +83,29 @@ rows =
     -- pruning: a branch that dies goes up to the root
     ∷ row false false false (21 ∷ 1 ∷ []) (plain (21 ∷ 22 ∷ []) [] ∷ plain (21 ∷ 22 ∷ []) [] ∷ plain (22 ∷ []) (22 to 23 ∷ []) ∷ []) 0 0 (1 ∷ 1 ∷ 1 ∷ 1 ∷ []) (22 ∷ []) (22 ∷ [])
     -- 8 before 9 at one certificate
-    ∷ row false true false (1 ∷ []) (plain [] (1 to 71 ∷ []) ∷ []) 8 1 [] [] []
+    ∷ row false true false (1 ∷ []) (plain [] (1 to 71 ∷ []) ∷ plain (70 ∷ []) [] ∷ []) 8 1 [] [] []
     -- 9 at certificate 1 before 8 at certificate 2
     ∷ row false true false (1 ∷ []) (plain (70 ∷ []) (70 to 71 ∷ 71 to 1 ∷ []) ∷ plain [] [] ∷ []) 9 1 [] [] []
     -- 8 at certificate 1 before 9 at certificate 2
-    ∷ row false true false (1 ∷ []) (plain [] [] ∷ plain (70 ∷ []) (1 to 71 ∷ []) ∷ []) 8 1 [] [] []
+    ∷ row false true false (1 ∷ []) (plain [] [] ∷ plain (70 ∷ []) (1 to 71 ∷ []) ∷ plain (70 ∷ []) [] ∷ []) 8 1 [] [] []
     -- test 8, explicit_policy above 0: passed without a graph, and 10 at the end
     ∷ row false false false (1 ∷ []) (certificate false (80 ∷ []) [] (Certificates 2) Absent Absent ∷ plain [] [] ∷ plain [] [] ∷ []) 10 3 (0 ∷ 0 ∷ 0 ∷ 0 ∷ []) [] []
+    -- test 9, issuer: a mapping of anyPolicy
+    ∷ row false false false (1 ∷ []) (plain (70 ∷ []) (1 to 71 ∷ []) ∷ plain (70 ∷ []) [] ∷ []) 9 1 [] [] []
     -- test 9, subject: a mapping to anyPolicy
-    ∷ row false false false (1 ∷ []) (plain (70 ∷ []) (70 to 1 ∷ []) ∷ []) 9 1 [] [] []
+    ∷ row false false false (1 ∷ []) (plain (70 ∷ []) (70 to 1 ∷ []) ∷ plain (70 ∷ []) [] ∷ []) 9 1 [] [] []
     -- test 9, any pair: the last of two, at certificate 2
-    ∷ row false false false (1 ∷ []) (plain (70 ∷ []) [] ∷ plain (70 ∷ []) (70 to 71 ∷ 1 to 72 ∷ []) ∷ []) 9 2 [] [] []
+    ∷ row false false false (1 ∷ []) (plain (70 ∷ []) [] ∷ plain (70 ∷ []) (70 to 71 ∷ 1 to 72 ∷ []) ∷ plain (70 ∷ []) [] ∷ []) 9 2 [] [] []
+    -- test 9, any certificate before the last: the first of three
+    ∷ row false false false (1 ∷ []) (plain (70 ∷ []) (71 to 1 ∷ []) ∷ plain (70 ∷ []) [] ∷ plain (70 ∷ []) [] ∷ []) 9 1 [] [] []
+    -- test 9, at certificate 1, where certificate 2, the last, maps anyPolicy too
+    ∷ row false false false (1 ∷ []) (plain (70 ∷ []) (1 to 71 ∷ []) ∷ plain (70 ∷ []) (1 to 71 ∷ []) ∷ []) 9 1 [] [] []
+    -- test 9, not of the last: certificate 2's mapping of anyPolicy is ignored, and no node goes where policy_mapping is 0
+    ∷ row true true false (1 ∷ []) (plain (1 ∷ []) [] ∷ plain (1 ∷ []) (1 to 71 ∷ []) ∷ []) 0 0 (1 ∷ 1 ∷ 1 ∷ []) (1 ∷ []) (1 ∷ [])
+    -- test 9, not of the last: certificate 2's mapping to anyPolicy is ignored, and none is added
+    ∷ row false true false (1 ∷ []) (plain (1 ∷ []) [] ∷ plain (1 ∷ []) (71 to 1 ∷ []) ∷ []) 0 0 (1 ∷ 1 ∷ 1 ∷ []) (1 ∷ []) (1 ∷ [])
+    -- test 9, not of the only certificate: a mapping to anyPolicy
+    ∷ row false false false (1 ∷ []) (plain (70 ∷ []) (71 to 1 ∷ []) ∷ []) 0 0 (1 ∷ 1 ∷ []) (70 ∷ []) (70 ∷ [])
     -- test 9, whatever stands: with no graph and policy_mapping 0
     ∷ row true false false (1 ∷ []) (plain [] (71 to 1 ∷ []) ∷ plain (70 ∷ []) [] ∷ []) 9 1 [] [] []
     -- exactly: 11 expects 12 and no longer 11

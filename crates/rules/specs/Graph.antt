@@ -162,11 +162,10 @@ unfoldable pub test-8 : Counters → Graph → Bool
 unfolding gone
 test-8 k g = eqb (k .explicit) 0 && gone g
 
--- Test 9: "a mapping of certificate i names anyPolicy". House departure: it is made for certificate n, the last, too.
--- RFC 5280 makes it only for i < n, which would be `not last && maps-any c`.
+-- test 9: "a mapping of certificate i names anyPolicy", made only for i < n (RFC 5280 6.1.4 (a)); last where i is n
 unfoldable pub test-9 : Bool → Certificate → Bool
 unfolding maps-any
-test-9 last c = maps-any c
+test-9 last c = not last && maps-any c
 
 -- after certificate n: verdict 10 at n where "explicit_policy is 0 and the user set is empty", else 0
 unfoldable pub conclude : Path → Counters → Graph → Answer

@@ -165,10 +165,10 @@ unfoldable pub test-8 : Counters → Forest → Bool
 unfolding gone
 test-8 k t = eqb (k .explicit) 0 && gone t
 
--- Test 9 "with the departure": it is made for certificate n, the last, too. RFC 5280 makes it only for i < n, which would be `not last && maps-any c`.
+-- "and then test 9", which RFC 5280 6.1.4 (a) makes only for i < n; last where i is n
 unfoldable pub test-9 : Bool → Certificate → Bool
 unfolding maps-any
-test-9 last c = maps-any c
+test-9 last c = not last && maps-any c
 
 -- After certificate n, d being n-1: the counts and the authority set of the final tree; the intersection, "unless the user list is any-policy"; the user set, "the policies other than anyPolicy then directly under anyPolicy, or the authority set if the user list is any-policy". "The verdict is 10 at n if explicit_policy is 0 and no tree is left, else 0."
 unfoldable pub conclude : Path → Counters → ℕ → Forest → Answer

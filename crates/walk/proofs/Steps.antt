@@ -14,7 +14,7 @@ use Rattle.rules.specs.Numbers as Numbers
 use Rattle.rules.specs.Sets.{pick, _∈_, empty, ascending}
 use Rattle.rules.specs.Paths.{Path, Certificate, any}
 use Rattle.rules.specs.Counters.{Counters, at-start, after, zeroed, at-end}
-use Rattle.rules.specs.Answers.{Answer, failed, maps-any}
+use Rattle.rules.specs.Answers.{Answer, failed}
 use Rattle.rules.specs.Graph.{test-9}
 use Rattle.laws.proofs.Sets.{by-cases, pick-yes, pick-no, sorted-ascending, sorted-same, mem-ascending, or-false}
 use Rattle.levels.proofs.Levels.{Level, Step, none, new-level, mapped, expected, conclude, run, judged}
@@ -61,12 +61,12 @@ module _ (P : Path) (j : ℕ) (c : Certificate) (cs : List Certificate) (k : Cou
 
   abbrev pub turn : Bool → Answer
   turn last =
-      let f = pick (eqb (k .explicit) 0 && none (new-level last k c E a)) Numbers.no-graph (pick (maps-any c) Numbers.any-mapped 0) in
+      let f = pick (eqb (k .explicit) 0 && none (new-level last k c E a)) Numbers.no-graph (pick (test-9 last c) Numbers.any-mapped 0) in
       pick (eqb f 0) (passed last) (failed f j)
 
   run-cons : run P j (c ∷ cs) k E a steps ≡ turn (empty cs)
-  unfolding run test-9
-  run-cons = fault-pick (eqb (k .explicit) 0 && none (new-level (empty cs) k c E a)) (maps-any c) j _
+  unfolding run
+  run-cons = fault-pick (eqb (k .explicit) 0 && none (new-level (empty cs) k c E a)) (test-9 (empty cs) c) j _
 
 pub conclude-explicit : (P : Path) (k : Counters) (L : Level) (steps : List Step) → conclude P k L steps ≡ conclude P (record { explicit = k .explicit; mapping = 0; any = 0 }) L steps
 unfolding conclude
@@ -184,12 +184,12 @@ module _ {rec starts names : List ℕ} (N : Numbered rec starts names) where
 
     -- the fault that the code finds
     abbrev pub failing : Bool → ℕ
-    failing last = fault-of (k .explicit) (new last) (issued here) (subjected here)
+    failing last = fault-of last (k .explicit) (new last) (issued here) (subjected here)
 
-    failing-is : (last : Bool) → failing last ≡ pick (eqb (k .explicit) 0 && none (new-level last (counted k) named E a)) Numbers.no-graph (pick (maps-any named) Numbers.any-mapped 0)
+    failing-is : (last : Bool) → failing last ≡ pick (eqb (k .explicit) 0 && none (new-level last (counted k) named E a)) Numbers.no-graph (pick (test-9 last named) Numbers.any-mapped 0)
     failing-is last =
-        fault-same names (N .named) here (held .policies) (held .pairs) (k .explicit) (new last) (new-length last) (new-small last)
-        ∙ ap (λ L. pick (eqb (k .explicit) 0 && none L) Numbers.no-graph (pick (maps-any named) Numbers.any-mapped 0)) (new-is last)
+        fault-same names (N .named) here (held .policies) (held .pairs) last (k .explicit) (new last) (new-length last) (new-small last)
+        ∙ ap (λ L. pick (eqb (k .explicit) 0 && none L) Numbers.no-graph (pick (test-9 last named) Numbers.any-mapped 0)) (new-is last)
 
     turn-by : (last : Bool) {f : ℕ} → empty later ≡ last → f ≡ failing last → judged P ≡ pick (eqb f 0) (passing last) (failed f (suc i))
     turn-by last {f} e h =
@@ -204,8 +204,8 @@ module _ {rec starts names : List ℕ} (N : Numbered rec starts names) where
       pub new-at : (last : Bool) → entered last (k .any) a (certificate-at rec j) wanted r ≡ new last
       new-at last = ap₂ (λ j r. entered last (k .any) a (certificate-at rec j) wanted r) same-place same-row
 
-      pub failing-at : (last : Bool) → fault-of (k .explicit) (entered last (k .any) a (certificate-at rec j) wanted r) (issued (certificate-at rec j)) (subjected (certificate-at rec j)) ≡ failing last
-      failing-at last = ap₂ (λ j x. fault-of (k .explicit) x (issued (certificate-at rec j)) (subjected (certificate-at rec j))) same-place (new-at last)
+      pub failing-at : (last : Bool) → fault-of last (k .explicit) (entered last (k .any) a (certificate-at rec j) wanted r) (issued (certificate-at rec j)) (subjected (certificate-at rec j)) ≡ failing last
+      failing-at last = ap₂ (λ j x. fault-of last (k .explicit) x (issued (certificate-at rec j)) (subjected (certificate-at rec j))) same-place (new-at last)
 
       pub mapped-at : spec.map-row (k .mapping) (issued (certificate-at rec j)) (entered false (k .any) a (certificate-at rec j) wanted r) ≡ spec.map-row (k .mapping) (issued here) (new false)
       mapped-at = ap₂ (λ j x. spec.map-row (k .mapping) (issued (certificate-at rec j)) x) same-place (new-at false)

@@ -17,7 +17,7 @@ returns c =
     let ps = n .before .before .before .before .policies-at .ensures in
     let own = n .before .before .before .flag-at .ensures ∙ self-issued-is (a .rec .now) (a .at) in
     let rule = n .before .before .any-allowed .ensures ∙ ap₂ (allowed (a .last) (a .k .any)) own ps in
-    (n .new-row .ensures ∙ ap₂ (λ b xs. new-row b (a .any-above) xs (a .expected .now) (a .row .now)) rule ps, c .fault .ensures ∙ ap₂ (fault-of (a .k .explicit) (n .new-row .last .1 .1 .1 .1 .0)) (c .before .before .issuers-at .ensures) (c .before .subjects-at .ensures))
+    (n .new-row .ensures ∙ ap₂ (λ b xs. new-row b (a .any-above) xs (a .expected .now) (a .row .now)) rule ps, c .fault .ensures ∙ ap₂ (fault-of (a .last) (a .k .explicit) (n .new-row .last .1 .1 .1 .1 .0)) (c .before .before .issuers-at .ensures) (c .before .subjects-at .ensures))
 
 pub enter-spec : {M : Type 1} → statement M
 enter-spec =

@@ -24,8 +24,8 @@ new c = entered false (c .args .k .any) (c .args .any-above) (here c) (c .args .
 abbrev start : tie.After-enter → tie.Start
 start c = c .before .before .before .before .before .before
 
-fault : (c : tie.After-enter) → c .enter .result ≡ fault-of (start c .args .k .explicit) (new (start c)) (issued (here (start c))) (subjected (here (start c)))
-fault c = c .enter .ensures .1 ∙ ap (λ r. fault-of (start c .args .k .explicit) r (issued (here (start c))) (subjected (here (start c)))) (c .enter .ensures .0)
+fault : (c : tie.After-enter) → c .enter .result ≡ fault-of false (start c .args .k .explicit) (new (start c)) (issued (here (start c))) (subjected (here (start c)))
+fault c = c .enter .ensures .1 ∙ ap (λ r. fault-of false (start c .args .k .explicit) r (issued (here (start c))) (subjected (here (start c)))) (c .enter .ensures .0)
 
 pub pass-spec : {M : Type 1} → statement M
 pass-spec =

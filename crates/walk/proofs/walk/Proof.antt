@@ -139,7 +139,7 @@ last-fault : (e : tie.After-enter Inv-loop μ-loop) → e .enter .result ≡ fai
 last-fault e =
     let l = ending e in
     let d = certificate-at (begun l .args .rec .now) (e .before .before .before .wide2 .result) in
-    e .enter .ensures .1 ∙ ap (λ r. fault-of (l .loop .k .explicit) r (issued d) (subjected d)) (e .enter .ensures .0)
+    e .enter .ensures .1 ∙ ap (λ r. fault-of true (l .loop .k .explicit) r (issued d) (subjected d)) (e .enter .ensures .0)
     ∙ failing-at (numbered l) (walking l) (same-row l) (place-last e) true
 
 end : (c : tie.After-loop Inv-loop μ-loop) → at (begun (c .before) .args .rec .now) 0 ≤ suc (c .before .loop .i)
