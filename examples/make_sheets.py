@@ -1,5 +1,5 @@
 #!/usr/bin/env python3
-"""Writes the sheets of document 01's known paths and the longest sheet with the answers expected, and the sheets of a test program.
+"""Writes the sheets of document 01's known paths, one that is answered 9, and the longest sheet with the answers expected, and the sheets of a test program.
 
     examples/make_sheets.py     writes examples/*.sheet, examples/*.answer and the data of crates/sheet_check
 
@@ -56,13 +56,14 @@ KNOWN = {
     "I-51": sheet(H, users=(51,), explicit=True, mapping=True),
     "J": sheet([certificate([60], [(60, 61)]), certificate([60, 61])], explicit=True, mapping=True),
     "K": sheet([certificate([70], [(1, 71)])]),
+    "K-before-last": sheet([certificate([70], [(1, 71)]), certificate([70])]),
     "L-0": sheet([certificate(skips=(0, None, None))]),
     "L-1": sheet([certificate(skips=(1, None, None))]),
     "M": sheet([certificate([80], skips=(1, None, None)), certificate()]),
 }
 
 
-# What document 01 says of each: verdict, place, counts from depth 0, authority set, user set.
+# What document 01 says of each, and of K document 02's request Three: verdict, place, counts from depth 0, authority set, user set.
 ANSWERS = {
     "A": (0, 0, [1, 2, 2], [11, 12], [11, 12]),
     "B": (0, 0, [1, 2, 2, 2], [21, 22], [21, 22]),
@@ -78,7 +79,8 @@ ANSWERS = {
     "I-50": (10, 2, [1, 1, 1], [51], []),
     "I-51": (0, 0, [1, 1, 1], [51], [51]),
     "J": (8, 2, [], [], []),
-    "K": (9, 1, [], [], []),
+    "K": (0, 0, [1, 1], [70], [70]),
+    "K-before-last": (9, 1, [], [], []),
     "L-0": (10, 1, [], [], []),
     "L-1": (0, 0, [], [], []),
     "M": (10, 2, [], [], []),

@@ -13,7 +13,7 @@ pub const DEPTHS: usize = MAX_CERTIFICATES + 1;
 /// "8: after certificate i's policies, explicit_policy is 0 and there is no
 /// graph"
 pub const NO_GRAPH: u8 = 8;
-/// "9: a mapping of certificate i names anyPolicy"
+/// "9: a mapping of certificate i names anyPolicy", for i < n
 pub const MAPS_ANY: u8 = 9;
 /// "10: at the end, explicit_policy is 0 and the user set is empty"
 pub const NO_USER_POLICY: u8 = 10;

@@ -206,10 +206,10 @@ pub fn judge(path: &Path) -> Answer {
         if counters.explicit_policy == 0 && graph.is_none() {
             return Answer::bare(NO_GRAPH, place);
         }
-        if certificate.mapping_names_any() {
-            return Answer::bare(MAPS_ANY, place);
-        }
         if place < n {
+            if certificate.mapping_names_any() {
+                return Answer::bare(MAPS_ANY, place);
+            }
             let mapping_allowed = counters.policy_mapping > 0;
             graph =
                 graph.and_then(|graph| graph.map_policies(&certificate.mappings, mapping_allowed));

@@ -1,4 +1,5 @@
-//! The paths with known outcomes of document 01.
+//! The paths with known outcomes of document 01, and those of document 02's
+//! request Three, which has case K anew.
 
 use crate::answer::{Answer, DEPTHS};
 use crate::path::{Certificate, Path, ANY};
@@ -34,7 +35,8 @@ fn answer(number: u8, place: usize, counts: &[u16], authority: &[u16], user: &[u
     Answer { number, place, counts: all, authority: authority.to_vec(), user: user.to_vec() }
 }
 
-/// Rows A to M in order, each form of a row on its own.
+/// Rows A to M in order, each form of a row on its own; then those of test 9,
+/// made only before the last certificate.
 pub fn rows() -> Vec<Known> {
     let square = [(21, 21), (21, 22), (22, 21), (22, 22)];
     let a = path(vec![
@@ -76,6 +78,18 @@ pub fn rows() -> Vec<Known> {
     let l_1 = path(vec![require(1)]);
     let m = path(vec![Certificate { policies: vec![80], ..require(1) }, certificate(&[], &[])]);
 
+    let (sealed, maps) = (certificate(&[70], &[]), certificate(&[70], &[(ANY, 71)]));
+    let first_maps = path(vec![maps.clone(), sealed.clone()]);
+    let first_to = path(vec![certificate(&[70], &[(70, ANY)]), sealed.clone()]);
+    let both_map = path(vec![maps.clone(), maps.clone()]);
+    let second_maps = path(vec![sealed.clone(), maps, sealed]);
+    let last_maps = Path {
+        mapping_inhibit: true,
+        ..path(vec![certificate(&[ANY], &[]), certificate(&[ANY], &[(ANY, 71)])])
+    };
+    let last_to = path(vec![certificate(&[ANY], &[]), certificate(&[ANY], &[(71, ANY)])]);
+    let only_to = path(vec![certificate(&[70], &[(71, ANY)])]);
+
     let row = |name, path, answer| Known { name, path, answer };
     vec![
         row("A", a, answer(0, 0, &[1, 2, 2], &[11, 12], &[11, 12])),
@@ -91,9 +105,16 @@ pub fn rows() -> Vec<Known> {
         row("I user 50", i_50, answer(10, 2, &[1, 1, 1], &[51], &[])),
         row("I user 51", i_51, answer(0, 0, &[1, 1, 1], &[51], &[51])),
         row("J", j, answer(8, 2, &[], &[], &[])),
-        row("K", k, answer(9, 1, &[], &[], &[])),
+        row("K", k, answer(0, 0, &[1, 1], &[70], &[70])),
         row("L requireExplicitPolicy 0", l_0, answer(10, 1, &[], &[], &[])),
         row("L requireExplicitPolicy 1", l_1, answer(0, 0, &[], &[], &[])),
         row("M", m, answer(10, 2, &[], &[], &[])),
+        row("9 of the first alone", first_maps, answer(9, 1, &[], &[], &[])),
+        row("9 of the first, to anyPolicy", first_to, answer(9, 1, &[], &[], &[])),
+        row("9 where the last maps anyPolicy too", both_map, answer(9, 1, &[], &[], &[])),
+        row("9 of the last but one of three", second_maps, answer(9, 2, &[], &[], &[])),
+        row("the last maps anyPolicy", last_maps, answer(0, 0, &[1, 1, 1], &[ANY], &[ANY])),
+        row("the last maps to anyPolicy", last_to, answer(0, 0, &[1, 1, 1], &[ANY], &[ANY])),
+        row("the only one maps to anyPolicy", only_to, answer(0, 0, &[1, 1], &[70], &[70])),
     ]
 }

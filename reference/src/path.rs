@@ -41,7 +41,8 @@ impl Path {
 }
 
 impl Certificate {
-    /// Test 9: "a mapping of certificate i names anyPolicy".
+    /// Test 9, which is made for i < n: "a mapping of certificate i names
+    /// anyPolicy".
     pub fn mapping_names_any(&self) -> bool {
         self.mappings.iter().any(|&(issuer, subject)| issuer == ANY || subject == ANY)
     }

@@ -280,14 +280,15 @@ fn judge_within(path: &Path, cap: usize) -> Result<Answer, OverCap> {
         let any_counts = counters.any_counts(certificate, place == n);
         take_policies(&mut tree, place, certificate, any_counts)?;
         // "Then, tree or no tree, test 8, which asks for the tree in place of
-        // the graph, and then test 9, with the departure."
+        // the graph, and then test 9", which "RFC 5280 makes [...] only for
+        // certificates before the last".
         if counters.explicit_policy == 0 && tree.is_none() {
             return Ok(Answer::bare(NO_GRAPH, place));
         }
-        if certificate.mapping_names_any() {
-            return Ok(Answer::bare(MAPS_ANY, place));
-        }
         if place < n {
+            if certificate.mapping_names_any() {
+                return Ok(Answer::bare(MAPS_ANY, place));
+            }
             take_mappings(&mut tree, place, certificate, counters.policy_mapping > 0)?;
             counters.next(certificate);
         } else {
