@@ -24,7 +24,7 @@
  *
  * 7, where `authority` or `user` has fewer than SKANDRULO_TABLE places or `counts` fewer than SKANDRULO_DEPTHS: nothing is written.
  * 1 to 6: the sheet is refused; both tables are as they were, and the first SKANDRULO_DEPTHS places of `counts` are 0.
- * 8 and 9: both tables are all zero, and so are the counts.
+ * 8 and 9: both tables are all zero, and so are the counts. 9 names a certificate before the last: the last one's mappings are ignored.
  * 0 and 10: each table holds its set first, ascending with no repeats, and zeros to its end; `counts` has the number of
  * policies at each depth. Places of `counts` beyond SKANDRULO_DEPTHS are as they were.
  */
