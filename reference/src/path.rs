@@ -38,6 +38,11 @@ impl Path {
     pub fn user_is_any(&self) -> bool {
         self.user.contains(&ANY)
     }
+
+    /// Whether a mapping of certificate n names anyPolicy, which no test asks.
+    pub fn last_mapping_names_any(&self) -> bool {
+        self.certificates.last().is_some_and(Certificate::mapping_names_any)
+    }
 }
 
 impl Certificate {

@@ -37,7 +37,7 @@ table-short = 7
 abbrev pub no-graph : ℕ
 no-graph = 8
 
--- a mapping of certificate i names anyPolicy
+-- a mapping of certificate i, for i < n, names anyPolicy
 abbrev pub any-mapped : ℕ
 any-mapped = 9
 

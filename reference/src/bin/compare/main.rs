@@ -97,19 +97,27 @@ impl Run {
 
     /// An answer must have come up so many times at least.
     pub fn often(&mut self, number: usize, times: usize, least: usize, inputs: &str) {
-        println!("answer {number}: {times} {inputs}");
-        let what = || format!("answer {number} is too rare in {inputs}");
-        self.check::<u8>(times >= least, what, &[]);
+        self.seen(&format!("answer {number}"), times, least, inputs);
     }
 
-    /// Random sheets. Each answer must come up often.
+    /// What is to be seen must have come up so many times at least.
+    fn seen(&mut self, what: &str, times: usize, least: usize, inputs: &str) {
+        println!("{what}: {times} {inputs}");
+        self.check::<u8>(times >= least, || format!("{what} is too rare in {inputs}"), &[]);
+    }
+
+    /// Random sheets. Each answer must come up often, and so must a last
+    /// certificate with a mapping that test 9 would not let pass.
     fn random_sheets(&mut self, sheets: u64) {
         let mut answers = [0; 11];
+        let mut ignored = 0;
         for _ in 0..sheets {
             let sheet = random::sheet(&mut self.random);
             let lengths = self.draw_lengths();
             let answer = self.judge(&sheet, lengths, tree::CAP);
             answers[usize::from(answer.number)] += 1;
+            let maps = sheet::read(&sheet).is_ok_and(|path| path.last_mapping_names_any());
+            ignored += usize::from(maps && matches!(answer.number, 0 | 10));
             let length = self.draw_length(&BUFFERS);
             self.rewrite(&sheet, length);
             let length = self.draw_length(&RECORDS);
@@ -118,6 +126,7 @@ impl Run {
         for (number, times) in answers.into_iter().enumerate() {
             self.often(number, times, OFTEN, "random sheets");
         }
+        self.seen("anyPolicy mapped by the last, 0 or 10", ignored, OFTEN, "random sheets");
     }
 
     /// Every one-bit damage and every cut of a dozen sheets, every cut of
