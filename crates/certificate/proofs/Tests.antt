@@ -19,7 +19,7 @@ use Rattle.places.specs.Mapped.{certificate-map}
 use Rattle.rows.specs.Read.{Small, level-of}
 use Rattle.rows.proofs.Places.{mem-any}
 use Rattle.rows.proofs.Counts.{none-is}
-use Rattle.certificate.specs.Entered.{allowed, mapping-fault, fault-of}
+use Rattle.certificate.specs.Entered.{allowed, fault-of}
 
 -- whether some pair has anyPolicy on a side
 some-side : (side : Mapping → ℕ) (ms : List Mapping) → some-of (λ m. eqb (side m) any) ms ≡ any ∈ map side ms
