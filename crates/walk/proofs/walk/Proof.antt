@@ -118,6 +118,10 @@ any-is p m z =
     ap (λ x. eqb (at x (i * u)) 1) (put-width u i s (row-left p))
     ∙ ap (λ x. eqb x 1) (sym (row-first (putMid (i * u) u s (row-left p)) u i (some-name (begun l .args .names .now) (numbered l .named))) ∙ ap (λ r. at r 0) (row-put s (row-left p) u i (room l) (row-long p) ∙ row-is p m z))
 
+-- where the walk goes on, the certificate passed both tests
+passed : (c : tie.Else1 Inv-loop μ-loop) → c .before .before .before .before .before .pass .result ≡ 0
+passed c = c .if1 .left
+
 -- after certificate n: `enter` has left its row
 
 abbrev ending : tie.After-enter Inv-loop μ-loop → tie.At-loop Inv-loop μ-loop
@@ -212,7 +216,7 @@ walk-spec =
     let p = c .before .before .before .before .before .before .before in
     let l = passing p in
     let m = more (p .before .before .before .before .before) in
-    let z = c .before .before .if1 .left in
+    let z = passed (c .before .before) in
     (walking-same (wanted-is p m z) (put-width (length (begun l .args .names .now)) (l .loop .i) (l .loop .store) (row-left p) ∙ ap (putMid (l .loop .i * length (begun l .args .names .now)) (length (begun l .args .names .now)) (l .loop .store)) (row-is p m z)) (any-is p m z) (add-one (l .loop .i)) (walk-next (numbered l) (walking l) m (fault-is p) z (c .lower .ensures ∙ after-at (numbered l) (walking l) (same-row l) (place p))), wanted-long p ∙ l .loop .inv .1, put-long l (row-left p) (row-long p) ∙ l .loop .inv .2))
     (λ c. omega (arith, walking (c .before) .some, numbered (c .before) .most))
     (λ c. fits (c .before .before))
