@@ -1,18 +1,19 @@
 -- The values of the four extensions, and what they give with the identifiers that are known: one table for each value, one for all four and one with the
 -- register in bytes, and one claim for each that covers every row, by computation.
-use Prim.Native.Nat.{ℕ}
+use Prim.Native.Nat.{ℕ, suc, _+_}
 use mathlib.Core.Bool.{Bool, true, false}
 use mathlib.Core.List.{List, [], _∷_, _++_, map}
 use mathlib.Core.Path.{_≡_, refl}
 use lib.ListN.{replicate}
 use Rattle.rules.specs.declared.Skip.{Skip}
 use Rattle.rules.specs.declared.Skip.the-variants.{Absent, Certificates}
+use Rattle.rules.specs.Limits as Limits
 use Rattle.rules.specs.Paths.{Mapping, Certificate}
 use Rattle.rules.specs.Sets.{each}
-use Rattle.rules.proofs.Notation.{_to_, certificate, plain}
+use Rattle.rules.proofs.Notation.{_to_, certificate, plain, from}
 use Rattle.extension_rules.specs.Outcomes.{Outcome, fault, fine}
 use Rattle.extension_rules.specs.Extensions.{Extended, extended, Read, read-extensions}
-use Rattle.extension_rules.proofs.Notation.{value, long-value, sequence, oid, policy, pair, any-policy, from, many, free, register}
+use Rattle.extension_rules.proofs.Notation.{value, long-value, sequence, oid, policy, pair, any-policy, many, list, free, register}
 
 -- the identifiers known, the self-issued flag, the four values, and what they give
 pub record Row : Type 0 where
@@ -65,17 +66,21 @@ notice : List ℕ
 unfolding sequence oid value
 notice = sequence (oid (0x2B ∷ 0x06 ∷ 0x01 ∷ 0x05 ∷ 0x05 ∷ 0x07 ∷ 0x02 ∷ 0x02 ∷ []) ++ sequence (value 0x0C (0x61 ∷ [])))
 
--- sixteen policies of one octet, and sixteen of two octets among those of `many 512`
-sixteen : List ℕ
+-- as many policies as a certificate may have: of one octet, and of two octets among those of `many 512`
+full : List ℕ
 unfolding each policy from
-sixteen = each policy (from 0x20 16)
+full = each policy (from 0x20 Limits.listed)
 
-sixteen-known : List ℕ
+full-known : List ℕ
 unfolding each sequence oid from
-sixteen-known = each (λ k. sequence (oid (0x00 ∷ k ∷ []))) (from 0 16)
+full-known = each (λ k. sequence (oid (0x00 ∷ k ∷ []))) (from 0 Limits.listed)
+
+-- one policy more than those of `full`
+another : ℕ
+another = 0x20 + Limits.listed
 
 unfoldable pub policies-rows : List Row
-unfolding listed unlisted ids qualified with-qualified cps notice sixteen sixteen-known value long-value sequence oid policy any-policy from many each
+unfolding listed unlisted ids qualified with-qualified cps notice full full-known another list value long-value sequence oid policy any-policy from many each
 policies-rows =
     -- certificatePolicies absent
     listed (ids (0x2A ∷ [])) [] [] (ids (0x2A ∷ []))
@@ -87,8 +92,8 @@ policies-rows =
     -- anyPolicy is 1 and is not registered
     ∷ listed [] (sequence (sequence (oid any-policy))) (1 ∷ []) []
     ∷ listed [] (sequence (policy 0x2A ++ sequence (oid any-policy) ++ policy 0x2B)) (2 ∷ 1 ∷ 3 ∷ []) (ids (0x2A ∷ 0x2B ∷ []))
-    -- sixteen policies
-    ∷ listed [] (sequence sixteen) (from 2 16) (ids (from 0x20 16))
+    -- a full list of policies
+    ∷ listed [] (list full) (from 2 Limits.listed) (ids (from 0x20 Limits.listed))
     -- identifiers of 32 octets, in a list of 144 octets
     ∷ listed [] (long-value 0x30 (each (λ a. sequence (oid (replicate 32 a))) (0x2A ∷ 0x2B ∷ 0x2C ∷ 0x2D ∷ []))) (2 ∷ 3 ∷ 4 ∷ 5 ∷ []) (replicate 32 0x2A ∷ replicate 32 0x2B ∷ replicate 32 0x2C ∷ replicate 32 0x2D ∷ [])
     -- a qualifier, two of them, and a policy after them; they are dropped
@@ -159,19 +164,19 @@ policies-rows =
     ∷ unlisted (many 511) (sequence (policy 0x2A ++ policy 0x2B)) 14
     -- of 33 octets where 512 stand
     ∷ unlisted (many 512) (sequence (sequence (oid (replicate 33 0x2A)))) 15
-    -- a seventeenth policy
-    ∷ unlisted [] (sequence (sixteen ++ policy 0x30)) 3
-    -- a seventeenth policy: 3 before its 15, 14 and 5, anyPolicy too, and before its qualifiers
-    ∷ unlisted [] (sequence (sixteen ++ sequence (oid (replicate 33 0x2A)))) 3
-    ∷ unlisted (many 512) (sequence (sixteen-known ++ policy 0x30)) 3
-    ∷ unlisted [] (sequence (sixteen ++ policy 0x20)) 3
-    ∷ unlisted [] (sequence (sixteen ++ sequence (oid any-policy))) 3
-    ∷ unlisted [] (sequence (sixteen ++ qualified (0x30 ∷ 0x00 ∷ []))) 3
-    -- a seventeenth policy whose header or identifier is bad
-    ∷ unlisted [] (sequence (sixteen ++ value 0x31 (oid (0x30 ∷ [])))) 13
-    ∷ unlisted [] (sequence (sixteen ++ 0x30 ∷ 0x04 ∷ oid (0x30 ∷ []))) 13
-    ∷ unlisted [] (sequence (sixteen ++ sequence (value 0x05 (0x30 ∷ [])))) 13
-    ∷ unlisted [] (sequence (sixteen ++ sequence (oid (0x80 ∷ 0x01 ∷ [])))) 13
+    -- a policy too many
+    ∷ unlisted [] (list (full ++ policy another)) 3
+    -- a policy too many: 3 before its 15, 14 and 5, anyPolicy too, and before its qualifiers
+    ∷ unlisted [] (list (full ++ sequence (oid (replicate 33 0x2A)))) 3
+    ∷ unlisted (many 512) (list (full-known ++ policy another)) 3
+    ∷ unlisted [] (list (full ++ policy 0x20)) 3
+    ∷ unlisted [] (list (full ++ sequence (oid any-policy))) 3
+    ∷ unlisted [] (list (full ++ qualified (0x30 ∷ 0x00 ∷ []))) 3
+    -- a policy too many whose header or identifier is bad
+    ∷ unlisted [] (list (full ++ value 0x31 (oid (another ∷ [])))) 13
+    ∷ unlisted [] (list (full ++ 0x30 ∷ 0x04 ∷ oid (another ∷ []))) 13
+    ∷ unlisted [] (list (full ++ sequence (value 0x05 (another ∷ [])))) 13
+    ∷ unlisted [] (list (full ++ sequence (oid (0x80 ∷ 0x01 ∷ [])))) 13
     -- 5, 15 and 14 before a 13 later in the value
     ∷ unlisted [] (sequence (policy 0x2A ++ policy 0x2A ++ 0x31 ∷ 0x00 ∷ [])) 5
     ∷ unlisted [] (sequence (sequence (oid (replicate 33 0x2A)) ++ 0x31 ∷ 0x00 ∷ [])) 15
@@ -184,7 +189,7 @@ policies-rows =
     ∷ unlisted [] (sequence (policy 0x2A ++ policy 0x2A) ++ 0x00 ∷ []) 5
     ∷ unlisted [] (sequence (sequence (oid (replicate 33 0x2A))) ++ 0x00 ∷ []) 15
     ∷ unlisted (many 512) (sequence (policy 0x2A) ++ 0x00 ∷ []) 14
-    ∷ unlisted [] (sequence (sixteen ++ policy 0x30) ++ 0x00 ∷ []) 3
+    ∷ unlisted [] (list (full ++ policy another) ++ 0x00 ∷ []) 3
     -- 5, 15 and 14 before the qualifiers' 13
     ∷ unlisted [] (sequence (policy 0x2A ++ qualified (0x30 ∷ 0x00 ∷ []))) 5
     ∷ unlisted [] (sequence (sequence (oid (replicate 33 0x2A) ++ 0x30 ∷ 0x00 ∷ []))) 15
@@ -241,7 +246,7 @@ unfolding sequence oid
 pair-of a b = sequence (oid a ++ oid b)
 
 unfoldable pub mappings-rows : List Row
-unfolding mapped unmapped ids _to_ alike pair-of value long-value sequence oid pair any-policy many
+unfolding mapped unmapped ids _to_ alike pair-of list value long-value sequence oid pair any-policy many
 mappings-rows =
     -- policyMappings absent
     mapped (ids (0x2A ∷ [])) [] [] (ids (0x2A ∷ []))
@@ -257,8 +262,8 @@ mappings-rows =
     ∷ mapped [] (sequence (pair-of any-policy (0x2A ∷ []))) (1 to 2 ∷ []) (ids (0x2A ∷ []))
     ∷ mapped [] (sequence (pair-of (0x2A ∷ []) any-policy)) (2 to 1 ∷ []) (ids (0x2A ∷ []))
     ∷ mapped [] (sequence (pair-of any-policy any-policy)) (1 to 1 ∷ []) []
-    -- sixteen pairs
-    ∷ mapped [] (long-value 0x30 (alike 16)) (replicate 16 (2 to 3)) (ids (0x2A ∷ 0x2B ∷ []))
+    -- a full list of pairs
+    ∷ mapped [] (list (alike Limits.listed)) (replicate Limits.listed (2 to 3)) (ids (0x2A ∷ 0x2B ∷ []))
     -- identifiers of 32 octets
     ∷ mapped [] (sequence (pair-of (replicate 32 0x2A) (replicate 32 0x2B))) (2 to 3 ∷ []) (replicate 32 0x2A ∷ replicate 32 0x2B ∷ [])
     -- an empty list of pairs: 3, also where octets follow it
@@ -310,23 +315,23 @@ mappings-rows =
     -- where 511 stand, a new issuer that is the subject too, and one with another subject
     ∷ mapped (many 511) (sequence (pair 0x2A 0x2A)) (513 to 513 ∷ []) (many 511 ++ ids (0x2A ∷ []))
     ∷ unmapped (many 511) (sequence (pair 0x2A 0x2B)) 14
-    -- a seventeenth pair
-    ∷ unmapped [] (long-value 0x30 (alike 17)) 3
-    -- a seventeenth pair: 3 at its issuer, before the issuer's 15 and 14 and the subject's 13
-    ∷ unmapped [] (long-value 0x30 (alike 16 ++ pair-of (replicate 33 0x2A) (0x2B ∷ []))) 3
-    ∷ unmapped (ids (0x2A ∷ 0x2B ∷ []) ++ many 510) (long-value 0x30 (alike 16 ++ pair 0x2C 0x2B)) 3
-    ∷ unmapped [] (long-value 0x30 (alike 16 ++ sequence (oid (0x2A ∷ [])))) 3
-    ∷ unmapped [] (long-value 0x30 (alike 16 ++ pair-of (0x2A ∷ []) (0x80 ∷ 0x01 ∷ []))) 3
-    -- a seventeenth pair whose header or issuer is bad
-    ∷ unmapped [] (long-value 0x30 (alike 16 ++ 0x31 ∷ 0x00 ∷ [])) 13
-    ∷ unmapped [] (long-value 0x30 (alike 16 ++ 0x30 ∷ 0x00 ∷ [])) 13
-    ∷ unmapped [] (long-value 0x30 (alike 16 ++ pair-of (0x80 ∷ 0x01 ∷ []) (0x2B ∷ []))) 13
+    -- a pair too many
+    ∷ unmapped [] (list (alike (suc Limits.listed))) 3
+    -- a pair too many: 3 at its issuer, before the issuer's 15 and 14 and the subject's 13
+    ∷ unmapped [] (list (alike Limits.listed ++ pair-of (replicate 33 0x2A) (0x2B ∷ []))) 3
+    ∷ unmapped (ids (0x2A ∷ 0x2B ∷ []) ++ many 510) (list (alike Limits.listed ++ pair 0x2C 0x2B)) 3
+    ∷ unmapped [] (list (alike Limits.listed ++ sequence (oid (0x2A ∷ [])))) 3
+    ∷ unmapped [] (list (alike Limits.listed ++ pair-of (0x2A ∷ []) (0x80 ∷ 0x01 ∷ []))) 3
+    -- a pair too many whose header or issuer is bad
+    ∷ unmapped [] (list (alike Limits.listed ++ 0x31 ∷ 0x00 ∷ [])) 13
+    ∷ unmapped [] (list (alike Limits.listed ++ 0x30 ∷ 0x00 ∷ [])) 13
+    ∷ unmapped [] (list (alike Limits.listed ++ pair-of (0x80 ∷ 0x01 ∷ []) (0x2B ∷ []))) 13
     -- 15 before a 13 later in the value, and 13 before a 15
     ∷ unmapped [] (sequence (pair-of (replicate 33 0x2A) (0x2B ∷ []) ++ 0x31 ∷ 0x00 ∷ [])) 15
     ∷ unmapped [] (sequence (0x31 ∷ 0x00 ∷ pair-of (replicate 33 0x2A) (0x2B ∷ []))) 13
     -- 15 and 3 before the octets after the value
     ∷ unmapped [] (sequence (pair-of (replicate 33 0x2A) (0x2B ∷ [])) ++ 0x00 ∷ []) 15
-    ∷ unmapped [] (long-value 0x30 (alike 17) ++ 0x00 ∷ []) 3
+    ∷ unmapped [] (list (alike (suc Limits.listed)) ++ 0x00 ∷ []) 3
     ∷ []
 
 -- Every value of policyMappings gives what is expected.

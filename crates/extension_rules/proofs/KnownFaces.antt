@@ -1,6 +1,6 @@
 -- What the function for C and Rust gives, with each slice at entry and at exit: one table, and one claim that covers every row, by computation. At entry
 -- the places of the certificate hold 9.
-use Prim.Native.Nat.{ℕ, _-_}
+use Prim.Native.Nat.{ℕ, _+_, _*_, _-_}
 use mathlib.Core.Bool.{Bool, true, false}
 use mathlib.Core.List.{List, [], _∷_, _++_, map}
 use mathlib.Core.Path.{_≡_, refl}
@@ -8,8 +8,7 @@ use lib.ListN.{replicate}
 use Rattle.rules.proofs.Notation.{filled}
 use Rattle.record.specs.Record.{flag-number, skip-number}
 use Rattle.extension_rules.specs.Extensions.{refusals}
-use Rattle.extension_rules.specs.Face as Face
-use Rattle.extension_rules.specs.Face.{Lent, extension-number, extensions-read}
+use Rattle.extension_rules.specs.Face.{certificate-places, Lent, extension-number, extensions-read}
 use Rattle.extension_rules.proofs.Notation.{sequence, policy, pair}
 
 pub record Figure : Type 0 where
@@ -18,8 +17,8 @@ pub record Figure : Type 0 where
 
 unfoldable pub figures : List Figure
 figures =
-    -- a certificate takes 54 places at most
-    record { named = Face.certificate-places; figure = 54 }
+    -- a certificate takes 99 places at most
+    record { named = certificate-places; figure = 99 }
     ∷ []
 
 -- Every limit is the figure expected.
@@ -46,11 +45,11 @@ number-rows =
     -- the refusals, and 7
     map (numbered true) (3 ∷ 5 ∷ 7 ∷ 13 ∷ 14 ∷ 15 ∷ 20 ∷ [])
     -- 256 times a number of places
-    ++ (map (numbered true) (1536 ∷ 13824 ∷ [])
+    ++ (map (numbered true) (1536 ∷ 256 * certificate-places ∷ [])
     -- the sheet's other numbers, and those of no request
     ++ (map (numbered false) (1 ∷ 2 ∷ 4 ∷ 6 ∷ 8 ∷ 9 ∷ 10 ∷ 11 ∷ 12 ∷ 16 ∷ 19 ∷ 21 ∷ [])
     -- a number of places that is not times 256, a refusal beside one
-    ++ map (numbered false) (54 ∷ 128 ∷ 255 ∷ 257 ∷ 1549 ∷ 1664 ∷ [])))
+    ++ map (numbered false) (certificate-places ∷ 128 ∷ 255 ∷ 257 ∷ 1549 ∷ 1664 ∷ [])))
 
 -- Every number is one of demand 1's or is none, as expected.
 pub known-numbers-given : map (λ r. extension-number (r .number)) number-rows ≡ map (λ r. r .given) number-rows
@@ -93,28 +92,28 @@ bad n = 0 ∷ 1 ∷ replicate (n - 2) 0
 unfoldable pub rows : List Row
 unfolding row not-own unchanged none bad filled sequence policy pair
 rows =
-    -- 256 times the six places of a certificate with no list, and zeros to place 54
-    row [] [] [] [] (none 17922) 54 1536 (none 17922) (filled 54 0 (1 ∷ []))
+    -- 256 times the six places of a certificate with no list, and zeros to its last place
+    row [] [] [] [] (none 17922) certificate-places 1536 (none 17922) (filled certificate-places 0 (1 ∷ []))
     -- the same with the self-issued flag clear
-    ∷ not-own (row [] [] [] [] (none 17922) 54 1536 (none 17922) (replicate 54 0))
-    -- places beyond 54 and bytes beyond 17,922 are as they were
-    ∷ row [] [] [] [] (none 17925) 57 1536 (none 17925) (filled 54 0 (1 ∷ []) ++ 9 ∷ 9 ∷ 9 ∷ [])
+    ∷ not-own (row [] [] [] [] (none 17922) certificate-places 1536 (none 17922) (replicate certificate-places 0))
+    -- places beyond the certificate's and bytes beyond 17,922 are as they were
+    ∷ row [] [] [] [] (none 17925) (certificate-places + 3) 1536 (none 17925) (filled certificate-places 0 (1 ∷ []) ++ 9 ∷ 9 ∷ 9 ∷ [])
     -- each part: the head, the policies, the issuers, the subjects; the new identifiers entered in the register
-    ∷ row (sequence (policy 0x2A)) (sequence (pair 0x2A 0x29)) (sequence (0x80 ∷ 0x01 ∷ 0x03 ∷ 0x81 ∷ 0x01 ∷ 0x04 ∷ [])) (0x02 ∷ 0x01 ∷ 0x05 ∷ []) (none 17922) 56 2304
+    ∷ row (sequence (policy 0x2A)) (sequence (pair 0x2A 0x29)) (sequence (0x80 ∷ 0x01 ∷ 0x03 ∷ 0x81 ∷ 0x01 ∷ 0x04 ∷ [])) (0x02 ∷ 0x01 ∷ 0x05 ∷ []) (none 17922) (certificate-places + 2) 2304
     (0 ∷ 2 ∷ 0 ∷ 1 ∷ replicate 1022 0 ++ (1 ∷ 0x2A ∷ replicate 31 0 ++ (1 ∷ 0x29 ∷ replicate 16861 0)))
-    (filled 54 0 (1 ∷ 1 ∷ 1 ∷ 4 ∷ 5 ∷ 6 ∷ 2 ∷ 2 ∷ 3 ∷ []) ++ 9 ∷ 9 ∷ [])
-    -- a refusal: its number, 54 zeros, places beyond and the register as they were
-    ∷ row (sequence (policy 0x2A) ++ 0x00 ∷ []) [] [] [] (none 17922) 56 13 (none 17922) (replicate 54 0 ++ 9 ∷ 9 ∷ [])
+    (filled certificate-places 0 (1 ∷ 1 ∷ 1 ∷ 4 ∷ 5 ∷ 6 ∷ 2 ∷ 2 ∷ 3 ∷ []) ++ 9 ∷ 9 ∷ [])
+    -- a refusal: its number, zeros, places beyond and the register as they were
+    ∷ row (sequence (policy 0x2A) ++ 0x00 ∷ []) [] [] [] (none 17922) (certificate-places + 2) 13 (none 17922) (replicate certificate-places 0 ++ 9 ∷ 9 ∷ [])
     -- 20: the same
-    ∷ row [] [] [] [] (bad 17922) 55 20 (bad 17922) (replicate 54 0 ++ 9 ∷ [])
-    -- 7: a register of 17,921 bytes, a certificate of 53 places; nothing is written
-    ∷ unchanged [] (none 17921) 54 7
-    ∷ unchanged [] (none 17922) 53 7
+    ∷ row [] [] [] [] (bad 17922) (certificate-places + 1) 20 (bad 17922) (replicate certificate-places 0 ++ 9 ∷ [])
+    -- 7: a register of 17,921 bytes, a certificate one place short; nothing is written
+    ∷ unchanged [] (none 17921) certificate-places 7
+    ∷ unchanged [] (none 17922) (certificate-places - 1) 7
     -- 7 before 20 and before the values' faults
-    ∷ unchanged [] (bad 17921) 54 7
-    ∷ unchanged [] (bad 17922) 53 7
-    ∷ unchanged (0x31 ∷ []) (none 17921) 54 7
-    ∷ unchanged (0x31 ∷ []) (none 17922) 53 7
+    ∷ unchanged [] (bad 17921) certificate-places 7
+    ∷ unchanged [] (bad 17922) (certificate-places - 1) 7
+    ∷ unchanged (0x31 ∷ []) (none 17921) certificate-places 7
+    ∷ unchanged (0x31 ∷ []) (none 17922) (certificate-places - 1) 7
     -- 7 for slices with nothing
     ∷ unchanged [] [] 0 7
     ∷ []

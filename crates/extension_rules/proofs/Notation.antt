@@ -1,8 +1,9 @@
 -- How the tables of known values and registers are written.
 use Prim.Native.Nat.{ℕ, zero, suc, _-_, _*_, _/_, _%_}
 use mathlib.Core.List.{List, [], _∷_, _++_}
+use lib.Dec.{ltb}
 use lib.ListN.{length}
-use Rattle.rules.specs.Sets.{each}
+use Rattle.rules.specs.Sets.{pick, each}
 
 -- a value of less than 128 octets of content, and one of 128 to 255
 unfoldable pub value : ℕ → List ℕ → List ℕ
@@ -31,11 +32,6 @@ pair a b = 0x30 ∷ 0x06 ∷ 0x06 ∷ 0x01 ∷ a ∷ 0x06 ∷ 0x01 ∷ b ∷ []
 unfoldable pub any-policy : List ℕ
 any-policy = 0x55 ∷ 0x1D ∷ 0x20 ∷ 0x00 ∷ []
 
--- n, n + 1 and so on: k of them
-unfoldable pub from : ℕ → ℕ → List ℕ
-from n zero = []
-from n (suc k) = n ∷ from (suc n) k
-
 -- n identifiers of two octets, no two alike; the last has the octets 0 and 0
 unfoldable pub many : ℕ → List (List ℕ)
 many zero = []
@@ -49,6 +45,11 @@ waste (suc n) = n % 251 ∷ waste n
 -- a number in two bytes, the high one first
 unfoldable pub two : ℕ → List ℕ
 two n = n / 256 ∷ n % 256 ∷ []
+
+-- a SEQUENCE of any number of elements, its length in as few octets as can be
+unfoldable pub list : List ℕ → List ℕ
+unfolding pick two
+list c = let n = length c in 0x30 ∷ pick (ltb n 128) (n ∷ []) (pick (ltb n 256) (0x81 ∷ n ∷ []) (0x82 ∷ two n)) ++ c
 
 -- an entry of a register, in 33 bytes: the octets' number and the octets
 unfoldable pub slot : List ℕ → List ℕ

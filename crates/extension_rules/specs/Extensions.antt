@@ -51,7 +51,7 @@ unfolding _then_ list-of qualifier
 qualifiers a [] = fine a
 qualifiers a (b ∷ s) = list-of qualifier Numbers.not-der true (b ∷ s) then λ t. fine a
 
--- PolicyInformation. At its identifier 13, then 3 beyond the sixteenth, then 15, 14, 5; then the qualifiers
+-- PolicyInformation. At its identifier 13, then 3 beyond the limit, then 15, 14, 5; then the qualifiers
 unfoldable pub policy : Gathered → List ℕ → Outcome Gathered
 unfolding _then_ when pick _∈_ identifier numbered qualifiers
 policy g s =
@@ -61,7 +61,7 @@ policy g s =
     when (not (n .policy ∈ g .policies)) Numbers.policy-repeats
     (qualifiers (record { known = n .known; policies = g .policies ++ (n .policy ∷ []); issuers = g .issuers; subjects = g .subjects }) (p .rest)))
 
--- a pair: the issuer's identifier, which is 3 beyond the sixteenth pair, and the subject's
+-- a pair: the issuer's identifier, which is 3 beyond the limit of pairs, and the subject's
 unfoldable pub mapping : Gathered → List ℕ → Outcome Gathered
 unfolding _then_ when pick identifier numbered ended
 mapping g s =

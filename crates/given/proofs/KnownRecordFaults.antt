@@ -1,9 +1,11 @@
 -- Records handed over with known refusals: one table, and one claim that covers every row, by computation.
-use Prim.Native.Nat.{ℕ}
+use Prim.Native.Nat.{ℕ, suc, _+_}
 use mathlib.Core.List.{List, [], _∷_, _++_, map}
 use mathlib.Core.Path.{_≡_, refl}
 use lib.ListN.{replicate}
+use Rattle.rules.specs.Limits.{certificates, listed}
 use Rattle.rules.specs.Sets.{each}
+use Rattle.rules.proofs.Notation.{from}
 use Rattle.given.specs.Faults.{record-fault}
 use Rattle.given.proofs.Notation.{given, listing}
 
@@ -21,14 +23,29 @@ good : List ℕ
 unfolding listing
 good = listing 1 1 (5 ∷ 5 ∷ 6 ∷ [])
 
-sixteen : List ℕ
-sixteen = 1 ∷ 2 ∷ 3 ∷ 4 ∷ 5 ∷ 6 ∷ 7 ∷ 8 ∷ 9 ∷ 10 ∷ 11 ∷ 12 ∷ 13 ∷ 14 ∷ 15 ∷ 16 ∷ []
+-- n certificates alike
+alike : ℕ → List ℕ → List ℕ
+unfolding each
+alike n c = each {A = ℕ} (λ k. c) (replicate n 0)
+
+-- as many policies as a list may have
+full : List ℕ
+unfolding from
+full = from 1 listed
+
+-- a count of one more than a list may have, and the places of as many pairs
+many : ℕ
+many = suc listed
+
+many-pairs : ℕ → List ℕ
+unfolding many
+many-pairs p = replicate (many + many) p
 
 unfoldable pub rows : List Row
-unfolding row good sixteen listing each
+unfolding row good alike full many many-pairs listing
 rows =
     -- no fault: numbers after the record never matter
-    row 1 1 (30 ∷ []) (good ++ 0 ∷ 17 ∷ 0 ∷ []) 0
+    row 1 1 (30 ∷ []) (good ++ 0 ∷ many ∷ 0 ∷ []) 0
     -- no fault: the record ends with its last number, a head or a subject
     ∷ row 1 0 [] (listing 0 0 []) 0
     ∷ row 2 1 (30 ∷ []) (good ++ good) 0
@@ -36,29 +53,29 @@ rows =
     ∷ record { numbers = 1 ∷ 2 ∷ 65535 ∷ 256 ∷ 0 ∷ 7 ∷ 0 ∷ 0 ∷ 65535 ∷ 257 ∷ 256 ∷ []; fault = 0 }
     -- no fault: repeats among user policies and pairs, and of a policy in two certificates
     ∷ row 2 2 (30 ∷ 30 ∷ []) (listing 1 2 (5 ∷ 5 ∷ 5 ∷ 6 ∷ 6 ∷ []) ++ good) 0
-    -- no fault: ten certificates, and sixteen of each list
-    ∷ row 10 16 sixteen (each {A = ℕ} (λ c. listing 16 16 (sixteen ++ sixteen ++ sixteen)) (replicate 10 0)) 0
+    -- no fault: as many certificates as a path may have, and full lists
+    ∷ row certificates listed full (alike certificates (listing listed listed (full ++ full ++ full))) 0
     -- an empty record, and one of four numbers
     ∷ record { numbers = []; fault = 3 }
     ∷ record { numbers = 1 ∷ 0 ∷ 0 ∷ 0 ∷ []; fault = 3 }
     -- no certificate
     ∷ row 0 0 [] [] 3
-    -- eleven certificates
-    ∷ row 11 0 [] (each {A = ℕ} (λ c. good) (replicate 11 0)) 3
-    -- seventeen user policies
-    ∷ row 1 17 (17 ∷ sixteen) good 3
+    -- one certificate too many
+    ∷ row (suc certificates) 0 [] (alike (suc certificates) good) 3
+    -- one user policy too many
+    ∷ row 1 many (many ∷ full) good 3
     -- the user policies one number short
     ∷ row 1 2 (30 ∷ []) [] 3
     -- a certificate's head one number short, and no head at all
     ∷ row 1 0 [] (0 ∷ 0 ∷ 0 ∷ 0 ∷ 0 ∷ []) 3
     ∷ row 1 0 [] [] 3
     ∷ row 2 0 [] (good ++ 0 ∷ 0 ∷ 0 ∷ 0 ∷ 0 ∷ []) 3
-    -- seventeen policies
-    ∷ row 1 0 [] (listing 17 0 (17 ∷ sixteen)) 3
+    -- one policy too many
+    ∷ row 1 0 [] (listing many 0 (many ∷ full)) 3
     -- the policies one number short
     ∷ row 1 0 [] (listing 2 0 (5 ∷ [])) 3
-    -- seventeen pairs
-    ∷ row 1 0 [] (listing 0 17 (replicate 34 5)) 3
+    -- one pair too many
+    ∷ row 1 0 [] (listing 0 many (many-pairs 5)) 3
     -- the issuers one number short
     ∷ row 1 0 [] (listing 0 2 (5 ∷ [])) 3
     -- the subjects one number short
@@ -80,22 +97,22 @@ rows =
     ∷ row 1 0 [] (listing 3 0 (5 ∷ 6 ∷ 5 ∷ [])) 5
     -- a fault of the last certificate, after the lists of the first
     ∷ row 2 0 [] (good ++ listing 2 0 (5 ∷ 5 ∷ [])) 5
-    -- two faults: n before the user policies, 0 and 11
+    -- two faults: n before the user policies, 0 and too many
     ∷ row 0 1 (0 ∷ []) [] 3
-    ∷ row 11 1 (0 ∷ []) (each {A = ℕ} (λ c. good) (replicate 11 0)) 3
+    ∷ row (suc certificates) 1 (0 ∷ []) (alike (suc certificates) good) 3
     -- two faults: n before the certificates
-    ∷ row 11 0 [] (each {A = ℕ} (λ c. listing 2 0 (5 ∷ 5 ∷ [])) (replicate 11 0)) 3
+    ∷ row (suc certificates) 0 [] (alike (suc certificates) (listing 2 0 (5 ∷ 5 ∷ []))) 3
     -- two faults: the user count before the user policies
-    ∷ row 1 17 (0 ∷ sixteen) good 3
+    ∷ row 1 many (0 ∷ full) good 3
     -- two faults: user policies too few before a user policy 0
     ∷ row 1 2 (0 ∷ []) [] 3
     -- two faults: a user policy 0 before a certificate that is too short, and before its count and its policies
     ∷ row 1 1 (0 ∷ []) [] 4
-    ∷ row 1 1 (0 ∷ []) (listing 17 0 (17 ∷ sixteen)) 4
+    ∷ row 1 1 (0 ∷ []) (listing many 0 (many ∷ full)) 4
     ∷ row 1 1 (0 ∷ []) (listing 2 0 (5 ∷ 5 ∷ [])) 4
     -- two faults: the policy count before the policies, 0 and repeated
-    ∷ row 1 0 [] (listing 17 0 (0 ∷ sixteen)) 3
-    ∷ row 1 0 [] (listing 17 0 (5 ∷ sixteen)) 3
+    ∷ row 1 0 [] (listing many 0 (0 ∷ full)) 3
+    ∷ row 1 0 [] (listing many 0 (5 ∷ full)) 3
     -- two faults: policies too few before a policy 0 and before a repeat
     ∷ row 1 0 [] (listing 2 0 (0 ∷ [])) 3
     ∷ row 1 0 [] (listing 3 0 (5 ∷ 5 ∷ [])) 3
@@ -103,15 +120,15 @@ rows =
     ∷ row 1 0 [] (listing 3 0 (5 ∷ 0 ∷ 5 ∷ [])) 4
     ∷ row 1 0 [] (listing 3 0 (5 ∷ 5 ∷ 0 ∷ [])) 5
     -- two faults: the policies before the pairs' count, 0 and repeated
-    ∷ row 1 0 [] (listing 1 17 (0 ∷ replicate 34 5)) 4
-    ∷ row 1 0 [] (listing 2 17 (5 ∷ 5 ∷ replicate 34 5)) 5
+    ∷ row 1 0 [] (listing 1 many (0 ∷ many-pairs 5)) 4
+    ∷ row 1 0 [] (listing 2 many (5 ∷ 5 ∷ many-pairs 5)) 5
     -- two faults: the policies before pairs that are too few, 0 and repeated
     ∷ row 1 0 [] (listing 1 1 (0 ∷ [])) 4
     ∷ row 1 0 [] (listing 2 1 (5 ∷ 5 ∷ 6 ∷ [])) 5
     -- two faults: the policies before the pairs
     ∷ row 1 0 [] (listing 2 1 (5 ∷ 5 ∷ 0 ∷ 0 ∷ [])) 5
     -- two faults: the pairs' count before the pairs
-    ∷ row 1 0 [] (listing 0 17 (replicate 34 0)) 3
+    ∷ row 1 0 [] (listing 0 many (many-pairs 0)) 3
     -- two faults: pairs too few before an issuer 0 and before a subject 0
     ∷ row 1 0 [] (listing 0 2 (0 ∷ 5 ∷ 6 ∷ [])) 3
     ∷ row 1 0 [] (listing 0 2 (5 ∷ 5 ∷ 0 ∷ [])) 3

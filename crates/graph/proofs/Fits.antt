@@ -27,7 +27,7 @@ few-issuers c =
     let ds = map (λ m. m .issuer) (c .mappings) in
     omega (arith, pigeonhole (distinct ds) ds (unique-distinct ds) (λ q e. sym (mem-distinct q ds) ∙ e), length-map (c .mappings) (λ m. m .issuer))
 
--- "10 x 16 policies and 9 x 16 mapping issuers"
+-- every policy, and every mapping issuer before the last certificate's
 room-most : (d : Certificate) (cs : List Certificate) → ((i : ℕ) → i < length cs → FewInCertificate (getD cs i d)) → authority-room cs ≤ length cs * Limits.listed + (length cs - 1) * Limits.listed
 unfolding authority-room
 room-most d [] h = omega arith

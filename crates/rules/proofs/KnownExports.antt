@@ -1,15 +1,16 @@
 -- What the functions for C and Rust give, with every lent slice: one table for each, and one claim that covers every row, by computation.
 -- At entry the authority table is filled with 7, the user table with 8, the counts with 9 and the buffer with 170.
-use Prim.Native.Nat.{ℕ}
+use Prim.Native.Nat.{ℕ, _+_, _-_}
 use mathlib.Core.List.{List, [], _∷_, _++_, map}
 use mathlib.Core.Path.{_≡_, refl}
 use lib.ListN.{replicate}
+use Rattle.rules.specs.Limits.{table, depths, sheet-bytes}
 use Rattle.rules.specs.Graph as Graph
 use Rattle.rules.specs.Face.{refused-answer, Judged, sheet-exported, Rewritten, sheet-rewritten}
 use Rattle.rules.proofs.Notation.{filled, sheet-D, sheet-E, sheet-H}
 
--- A refusal in the code's own type: its number, place 0 and eleven zeros.
-pub known-refused : refused-answer 5 ≡ record { number = 5; place = 0; counts = replicate 11 0 }
+-- A refusal in the code's own type: its number, place 0 and a zero for each depth.
+pub known-refused : refused-answer 5 ≡ record { number = 5; place = 0; counts = replicate depths 0 }
 known-refused = refl
 
 -- a sheet, the three slices at entry, and what is expected
@@ -33,20 +34,20 @@ unchanged s a u c r = row s a u c r (replicate a 7) (replicate u 8) (replicate c
 unfoldable pub rows : List Row
 unfolding row unchanged filled sheet-D sheet-E sheet-H
 rows =
-    -- 0: the counts in the first eleven places
-    row sheet-E 304 305 11 0 (filled 304 0 (1 ∷ [])) (filled 305 0 (30 ∷ 31 ∷ [])) (filled 11 0 (1 ∷ 1 ∷ []))
+    -- 0: the counts in the first places, one for each depth
+    row sheet-E table (table + 1) depths 0 (filled table 0 (1 ∷ [])) (filled (table + 1) 0 (30 ∷ 31 ∷ [])) (filled depths 0 (1 ∷ 1 ∷ []))
     -- 10 at certificate 2: the number and 256 times the place; later counts unchanged
-    ∷ row sheet-H 306 304 13 522 (filled 306 0 (50 ∷ [])) (replicate 304 0) (filled 11 0 (1 ∷ 1 ∷ 1 ∷ []) ++ 9 ∷ 9 ∷ [])
+    ∷ row sheet-H (table + 2) table (depths + 2) 522 (filled (table + 2) 0 (50 ∷ [])) (replicate table 0) (filled depths 0 (1 ∷ 1 ∷ 1 ∷ []) ++ 9 ∷ 9 ∷ [])
     -- 8 at certificate 1: all zero
-    ∷ row sheet-D 304 304 12 264 (replicate 304 0) (replicate 304 0) (filled 11 0 [] ++ 9 ∷ [])
+    ∷ row sheet-D table table (depths + 1) 264 (replicate table 0) (replicate table 0) (filled depths 0 [] ++ 9 ∷ [])
     -- a refusal of the sheet: both tables unchanged, the counts zero
-    ∷ row [] 304 305 12 1 (replicate 304 7) (replicate 305 8) (filled 11 0 [] ++ 9 ∷ [])
-    -- 7: nothing is written; an authority table or a user table of 303 places, and ten counts
-    ∷ unchanged sheet-E 303 304 11 7
-    ∷ unchanged sheet-E 304 303 11 7
-    ∷ unchanged sheet-E 304 304 10 7
+    ∷ row [] table (table + 1) (depths + 1) 1 (replicate table 7) (replicate (table + 1) 8) (filled depths 0 [] ++ 9 ∷ [])
+    -- 7: nothing is written; an authority table or a user table one place short, and counts one place short
+    ∷ unchanged sheet-E (table - 1) table depths 7
+    ∷ unchanged sheet-E table (table - 1) depths 7
+    ∷ unchanged sheet-E table table (depths - 1) 7
     -- 7 before the sheet's own refusals
-    ∷ unchanged [] 304 304 10 7
+    ∷ unchanged [] table table (depths - 1) 7
     ∷ []
 
 -- Every sheet is judged for C as expected.
@@ -65,16 +66,16 @@ rewrite-row : List ℕ → ℕ → ℕ → List ℕ → RewriteRow
 rewrite-row s n r B′ = record { sheet = s; buffer = replicate n 170; rewritten = record { result = r; buffer = B′ } }
 
 unfoldable pub rewrite-rows : List RewriteRow
-unfolding rewrite-row sheet-E
+unfolding rewrite-row filled sheet-E
 rewrite-rows =
     -- 256 times the length, the sheet first, and every later byte unchanged
-    rewrite-row sheet-E 1044 2560 (sheet-E ++ replicate 1034 170)
-    ∷ rewrite-row sheet-E 1046 2560 (sheet-E ++ replicate 1036 170)
+    rewrite-row sheet-E sheet-bytes 2560 (filled sheet-bytes 170 sheet-E)
+    ∷ rewrite-row sheet-E (sheet-bytes + 2) 2560 (filled (sheet-bytes + 2) 170 sheet-E)
     -- a refusal of the sheet: the buffer unchanged
-    ∷ rewrite-row (0x21 ∷ []) 1044 2 (replicate 1044 170)
-    -- 7: a buffer of 1,043 bytes, and before the sheet's own refusals
-    ∷ rewrite-row sheet-E 1043 7 (replicate 1043 170)
-    ∷ rewrite-row (0x21 ∷ []) 1043 7 (replicate 1043 170)
+    ∷ rewrite-row (0x21 ∷ []) sheet-bytes 2 (replicate sheet-bytes 170)
+    -- 7: a buffer one byte short, and before the sheet's own refusals
+    ∷ rewrite-row sheet-E (sheet-bytes - 1) 7 (replicate (sheet-bytes - 1) 170)
+    ∷ rewrite-row (0x21 ∷ []) (sheet-bytes - 1) 7 (replicate (sheet-bytes - 1) 170)
     ∷ []
 
 -- Every sheet is rewritten for C as expected.

@@ -1,14 +1,15 @@
 -- Paths handed over decoded with known refusals, and the faults of single fields.
 -- For each one table, and one claim that covers every row, by computation. The places of a path that are not given hold faults of their own.
-use Prim.Native.Nat.{ℕ}
+use Prim.Native.Nat.{ℕ, suc}
 use mathlib.Core.Bool.{false}
 use mathlib.Core.List.{List, [], _∷_, map}
 use mathlib.Core.Path.{_≡_, refl}
 use lib.ListN.{replicate}
 use Rattle.rules.specs.declared.Certificate.{Certificate as StoredCertificate}
 use Rattle.rules.specs.declared.Path.{Path as StoredPath}
+use Rattle.rules.specs.Limits.{certificates, listed}
 use Rattle.rules.specs.Faults.{edition-fault, n-fault, count-fault, present-fault, policy-fault, user-fault, listed-fault, no-fault, _or-else_, path-fault}
-use Rattle.rules.proofs.Notation.{stored-plain, stored-path}
+use Rattle.rules.proofs.Notation.{from, stored-plain, stored-path}
 
 -- a field's fault and the number expected
 pub record FieldRow : Type 0 where
@@ -26,20 +27,20 @@ field-rows =
     (edition-fault 0 is 2)
     ∷ (edition-fault 1 is 0)
     ∷ (edition-fault 2 is 2)
-    -- "n is 0 or above 10"
+    -- n is 0 or above its limit
     ∷ (n-fault 0 is 3)
     ∷ (n-fault 1 is 0)
-    ∷ (n-fault 10 is 0)
-    ∷ (n-fault 11 is 3)
-    -- "user count above 16"
+    ∷ (n-fault certificates is 0)
+    ∷ (n-fault (suc certificates) is 3)
+    -- a user count above the limit
     ∷ (count-fault 0 is 0)
-    ∷ (count-fault 16 is 0)
-    ∷ (count-fault 17 is 3)
-    -- "a certificate's present count 0 or above 16"
+    ∷ (count-fault listed is 0)
+    ∷ (count-fault (suc listed) is 3)
+    -- a certificate's present count 0 or above the limit
     ∷ (present-fault 0 is 3)
     ∷ (present-fault 1 is 0)
-    ∷ (present-fault 16 is 0)
-    ∷ (present-fault 17 is 3)
+    ∷ (present-fault listed is 0)
+    ∷ (present-fault (suc listed) is 3)
     -- "a policy is 0, in any list"
     ∷ (policy-fault 0 is 4)
     ∷ (policy-fault 1 is 0)
@@ -80,11 +81,17 @@ good : StoredCertificate
 unfolding stored-plain
 good = stored-plain 1 (5 ∷ []) 1 (5 ∷ []) (6 ∷ [])
 
-sixteen : List ℕ
-sixteen = 1 ∷ 2 ∷ 3 ∷ 4 ∷ 5 ∷ 6 ∷ 7 ∷ 8 ∷ 9 ∷ 10 ∷ 11 ∷ 12 ∷ 13 ∷ 14 ∷ 15 ∷ 16 ∷ []
+-- as many policies as a list may have
+full : List ℕ
+unfolding from
+full = from 1 listed
+
+-- a count of one more than a list may have
+many : ℕ
+many = suc listed
 
 unfoldable pub rows : List Row
-unfolding row good sixteen stored-plain
+unfolding row good full many stored-plain
 rows =
     -- no fault: the places after each count never matter
     row 1 (30 ∷ []) 1 (good ∷ []) 0
@@ -92,18 +99,18 @@ rows =
     ∷ row 0 [] 1 (stored-plain 0 [] 0 [] [] ∷ []) 0
     -- no fault: repeats among user policies and pairs, and of a policy in two certificates
     ∷ row 2 (30 ∷ 30 ∷ []) 2 (stored-plain 1 (5 ∷ []) 2 (5 ∷ 5 ∷ []) (6 ∷ 6 ∷ []) ∷ good ∷ []) 0
-    -- no fault: ten certificates, and sixteen of each list
-    ∷ row 16 sixteen 10 (replicate 10 (stored-plain 16 sixteen 16 sixteen sixteen)) 0
+    -- no fault: as many certificates as a path may have, and full lists
+    ∷ row listed full certificates (replicate certificates (stored-plain listed full listed full full)) 0
     -- no certificate
     ∷ row 0 [] 0 [] 3
-    -- eleven certificates
-    ∷ row 0 [] 11 (replicate 10 good) 3
-    -- seventeen user policies
-    ∷ row 17 sixteen 1 (good ∷ []) 3
-    -- seventeen policies
-    ∷ row 0 [] 1 (stored-plain 17 sixteen 0 [] [] ∷ []) 3
-    -- seventeen pairs
-    ∷ row 0 [] 1 (stored-plain 0 [] 17 sixteen sixteen ∷ []) 3
+    -- one certificate too many
+    ∷ row 0 [] (suc certificates) (replicate certificates good) 3
+    -- one user policy too many
+    ∷ row many full 1 (good ∷ []) 3
+    -- one policy too many
+    ∷ row 0 [] 1 (stored-plain many full 0 [] [] ∷ []) 3
+    -- one pair too many
+    ∷ row 0 [] 1 (stored-plain 0 [] many full full ∷ []) 3
     -- a user policy 0, the first and the last in use
     ∷ row 2 (0 ∷ 30 ∷ []) 1 (good ∷ []) 4
     ∷ row 2 (30 ∷ 0 ∷ []) 1 (good ∷ []) 4
@@ -120,35 +127,35 @@ rows =
     ∷ row 0 [] 1 (stored-plain 3 (5 ∷ 6 ∷ 5 ∷ []) 0 [] [] ∷ []) 5
     -- a fault of the last certificate
     ∷ row 0 [] 2 (good ∷ stored-plain 2 (5 ∷ 5 ∷ []) 0 [] [] ∷ []) 5
-    -- two faults: n before the user policies, 0 and 11
+    -- two faults: n before the user policies, 0 and too many
     ∷ row 1 (0 ∷ []) 0 [] 3
-    ∷ row 1 (0 ∷ []) 11 (replicate 10 good) 3
+    ∷ row 1 (0 ∷ []) (suc certificates) (replicate certificates good) 3
     -- two faults: n before the certificates
-    ∷ row 0 [] 11 (replicate 10 (stored-plain 2 (5 ∷ 5 ∷ []) 0 [] [])) 3
+    ∷ row 0 [] (suc certificates) (replicate certificates (stored-plain 2 (5 ∷ 5 ∷ []) 0 [] [])) 3
     -- two faults: the user count before the user policies
-    ∷ row 17 (0 ∷ []) 1 (good ∷ []) 3
+    ∷ row many (0 ∷ []) 1 (good ∷ []) 3
     -- two faults: the user count before a certificate
-    ∷ row 17 sixteen 1 (stored-plain 2 (5 ∷ 5 ∷ []) 0 [] [] ∷ []) 3
+    ∷ row many full 1 (stored-plain 2 (5 ∷ 5 ∷ []) 0 [] [] ∷ []) 3
     -- two faults: the user policies before a certificate's count, and before its policies
-    ∷ row 1 (0 ∷ []) 1 (stored-plain 17 sixteen 0 [] [] ∷ []) 4
+    ∷ row 1 (0 ∷ []) 1 (stored-plain many full 0 [] [] ∷ []) 4
     ∷ row 1 (0 ∷ []) 1 (stored-plain 2 (5 ∷ 5 ∷ []) 0 [] [] ∷ []) 4
     -- two faults: the policy count before the policies, 0 and repeated
-    ∷ row 0 [] 1 (stored-plain 17 (0 ∷ []) 0 [] [] ∷ []) 3
-    ∷ row 0 [] 1 (stored-plain 17 (5 ∷ 5 ∷ []) 0 [] [] ∷ []) 3
+    ∷ row 0 [] 1 (stored-plain many (0 ∷ []) 0 [] [] ∷ []) 3
+    ∷ row 0 [] 1 (stored-plain many (5 ∷ 5 ∷ []) 0 [] [] ∷ []) 3
     -- two faults: policy 0 before a repeat after it, and a repeat before policy 0 after it
     ∷ row 0 [] 1 (stored-plain 3 (5 ∷ 0 ∷ 5 ∷ []) 0 [] [] ∷ []) 4
     ∷ row 0 [] 1 (stored-plain 3 (5 ∷ 5 ∷ 0 ∷ []) 0 [] [] ∷ []) 5
     -- two faults: the policies before the pairs' count, 0 and repeated
-    ∷ row 0 [] 1 (stored-plain 1 (0 ∷ []) 17 sixteen sixteen ∷ []) 4
-    ∷ row 0 [] 1 (stored-plain 2 (5 ∷ 5 ∷ []) 17 sixteen sixteen ∷ []) 5
+    ∷ row 0 [] 1 (stored-plain 1 (0 ∷ []) many full full ∷ []) 4
+    ∷ row 0 [] 1 (stored-plain 2 (5 ∷ 5 ∷ []) many full full ∷ []) 5
     -- two faults: the policies before the pairs
     ∷ row 0 [] 1 (stored-plain 2 (5 ∷ 5 ∷ []) 1 (0 ∷ []) (0 ∷ []) ∷ []) 5
     -- two faults: the policy count before the pairs
-    ∷ row 0 [] 1 (stored-plain 17 sixteen 1 (0 ∷ []) (0 ∷ []) ∷ []) 3
+    ∷ row 0 [] 1 (stored-plain many full 1 (0 ∷ []) (0 ∷ []) ∷ []) 3
     -- two faults: the pairs' count before the pairs
-    ∷ row 0 [] 1 (stored-plain 0 [] 17 (0 ∷ []) (0 ∷ []) ∷ []) 3
+    ∷ row 0 [] 1 (stored-plain 0 [] many (0 ∷ []) (0 ∷ []) ∷ []) 3
     -- two faults: certificate 1's pairs before certificate 2's count, and before its policies
-    ∷ row 0 [] 2 (stored-plain 0 [] 1 (5 ∷ []) (0 ∷ []) ∷ stored-plain 17 sixteen 0 [] [] ∷ []) 4
+    ∷ row 0 [] 2 (stored-plain 0 [] 1 (5 ∷ []) (0 ∷ []) ∷ stored-plain many full 0 [] [] ∷ []) 4
     ∷ row 0 [] 2 (stored-plain 0 [] 1 (0 ∷ []) (5 ∷ []) ∷ stored-plain 2 (5 ∷ 5 ∷ []) 0 [] [] ∷ []) 4
     -- two faults: certificate 1's policies before certificate 2's
     ∷ row 0 [] 2 (stored-plain 2 (5 ∷ 5 ∷ []) 0 [] [] ∷ stored-plain 1 (0 ∷ []) 0 [] [] ∷ []) 5

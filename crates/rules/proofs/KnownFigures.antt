@@ -1,5 +1,6 @@
--- Document 01's limits and numbers, and the numbers that document 02 adds, as figures: one table, and one claim that covers every row, by computation.
-use Prim.Native.Nat.{ℕ}
+-- The limits of document 01 as document 02's request Four has them, the numbers of 01 and those that 02 adds, as figures: one table, and one claim that covers every row, by computation.
+-- The other tables name a limit and have no figure of it.
+use Prim.Native.Nat.{ℕ, _-_}
 use mathlib.Core.List.{List, [], _∷_, map}
 use mathlib.Core.Path.{_≡_, refl}
 use Rattle.rules.specs.Limits as Limits
@@ -17,17 +18,18 @@ infix 30 _is_
 unfoldable pub rows : List Row
 unfolding _is_
 rows =
-    -- "A path has n certificates, 1 to 10"
-    (Limits.certificates is 10)
-    -- "0 to 16 policies; 0 to 16 mapping pairs"
-    ∷ (Limits.listed is 16)
-    -- "at least 304 places each"
-    ∷ (Limits.table is 304)
-    -- "eleven depth counts"
-    ∷ (Limits.depths is 11)
-    -- "The longest sheet is 8,352 bits, 1,044 bytes."
-    ∷ (Limits.sheet-bits is 8352)
-    ∷ (Limits.sheet-bytes is 1044)
+    -- "n up to 15"
+    (Limits.certificates is 15)
+    -- "up to 31 user policies, policies and pairs"
+    ∷ (Limits.listed is 31)
+    -- "The lent tables need 899 places", and 898 are too few
+    ∷ (Limits.table is 899)
+    ∷ (Limits.table - 1 is 898)
+    -- "the counts have sixteen places"
+    ∷ (Limits.depths is 16)
+    -- "the longest sheet is 2,929 bytes": 23,432 bits
+    ∷ (Limits.sheet-bits is 23432)
+    ∷ (Limits.sheet-bytes is 2929)
     -- "What the judge says"
     ∷ (Numbers.valid is 0)
     ∷ (Numbers.sheet-ends is 1)

@@ -1,12 +1,13 @@
 -- The judge's whole answer on sheets and on decoded paths, with what the two lent tables then hold, by the graph and by the tree.
 -- For each one table, and one claim that covers every row, by computation. At entry the authority table is filled with 7 and the user table with 8.
-use Prim.Native.Nat.{ℕ}
+use Prim.Native.Nat.{ℕ, _+_, _-_}
 use mathlib.Core.Bool.{Bool, true, false}
 use mathlib.Core.List.{List, [], _∷_, map}
 use mathlib.Core.Path.{_≡_, refl}
 use lib.ListN.{replicate}
 use Rattle.rules.specs.declared.Certificate.{Certificate as StoredCertificate}
 use Rattle.rules.specs.declared.Path.{Path as StoredPath}
+use Rattle.rules.specs.Limits.{table, depths}
 use Rattle.rules.specs.Graph as Graph
 use Rattle.rules.specs.Tree as Tree
 use Rattle.rules.specs.Judge.{Outcome, outcome, sheet-judged, path-judged}
@@ -24,50 +25,50 @@ row : {A : Type 0} → A → ℕ → ℕ → ℕ → ℕ → List ℕ → List �
 row x a u k i ns A′ U′ =
     record { input = x; authority = replicate a 7; user = replicate u 8; outcome = record { number = k; place = i; counts = ns; authority = A′; user = U′ } }
 
--- a refusal: place 0, the eleven counts 0, and both tables unchanged
+-- a refusal: place 0, a count of 0 for each depth, and both tables unchanged
 refusal : {A : Type 0} → A → ℕ → ℕ → ℕ → Row A
 unfolding row
-refusal x a u k = row x a u k 0 (replicate 11 0) (replicate a 7) (replicate u 8)
+refusal x a u k = row x a u k 0 (replicate depths 0) (replicate a 7) (replicate u 8)
 
--- a verdict: number and place, the counts in eleven places, and each set in its table, zero from its end to the table's
+-- a verdict: number and place, the counts, one for each depth, and each set in its table, zero from its end to the table's
 verdict : {A : Type 0} → A → ℕ → ℕ → ℕ → ℕ → List ℕ → List ℕ → List ℕ → Row A
 unfolding row filled
-verdict x a u k i ns as′ us′ = row x a u k i (filled 11 0 ns) (filled a 0 as′) (filled u 0 us′)
+verdict x a u k i ns as′ us′ = row x a u k i (filled depths 0 ns) (filled a 0 as′) (filled u 0 us′)
 
 unfoldable pub sheet-rows : List (Row (List ℕ))
 unfolding verdict refusal row sheet-A sheet-D sheet-E sheet-H sheet-K sheet-mapped
 sheet-rows =
-    -- 0 with tables of 304 places: the counts, and each set first and then zeros
-    verdict sheet-A 304 304 0 0 (1 ∷ 2 ∷ 2 ∷ []) (11 ∷ 12 ∷ []) (11 ∷ 12 ∷ [])
+    -- 0 with tables of the least places: the counts, and each set first and then zeros
+    verdict sheet-A table table 0 0 (1 ∷ 2 ∷ 2 ∷ []) (11 ∷ 12 ∷ []) (11 ∷ 12 ∷ [])
     -- 0 with longer tables, each zeroed to its own end
-    ∷ verdict sheet-E 305 307 0 0 (1 ∷ 1 ∷ []) (1 ∷ []) (30 ∷ 31 ∷ [])
+    ∷ verdict sheet-E (table + 1) (table + 3) 0 0 (1 ∷ 1 ∷ []) (1 ∷ []) (30 ∷ 31 ∷ [])
     -- 10: the counts and the authority set stand, the user table is all zero
-    ∷ verdict sheet-H 306 305 10 2 (1 ∷ 1 ∷ 1 ∷ []) (50 ∷ []) []
+    ∷ verdict sheet-H (table + 2) (table + 1) 10 2 (1 ∷ 1 ∷ 1 ∷ []) (50 ∷ []) []
     -- 8: both tables and the counts are all zero
-    ∷ verdict sheet-D 304 305 8 1 [] [] []
+    ∷ verdict sheet-D table (table + 1) 8 1 [] [] []
     -- 9: both tables and the counts are all zero
-    ∷ verdict sheet-mapped 305 304 9 1 [] [] []
+    ∷ verdict sheet-mapped (table + 1) table 9 1 [] [] []
     -- 0 where the last certificate maps anyPolicy
-    ∷ verdict sheet-K 304 304 0 0 (1 ∷ 1 ∷ []) (70 ∷ []) (70 ∷ [])
+    ∷ verdict sheet-K table table 0 0 (1 ∷ 1 ∷ []) (70 ∷ []) (70 ∷ [])
     -- a refusal leaves both tables: empty input
-    ∷ refusal [] 304 305 1
+    ∷ refusal [] table (table + 1) 1
     -- a refusal leaves both tables: edition 2
-    ∷ refusal (0x21 ∷ []) 305 304 2
+    ∷ refusal (0x21 ∷ []) (table + 1) table 2
     -- a refusal leaves both tables: a fill bit
-    ∷ refusal (0x11 ∷ 0x02 ∷ 0x00 ∷ 0x1E ∷ 0x00 ∷ 0x1F ∷ 0x42 ∷ 0x00 ∷ 0x02 ∷ 0x01 ∷ []) 304 304 6
-    -- 7: an authority table of 303 places
-    ∷ refusal sheet-E 303 304 7
-    -- 7: a user table of 303 places
-    ∷ refusal sheet-E 304 303 7
+    ∷ refusal (0x11 ∷ 0x02 ∷ 0x00 ∷ 0x1E ∷ 0x00 ∷ 0x1F ∷ 0x42 ∷ 0x00 ∷ 0x02 ∷ 0x01 ∷ []) table table 6
+    -- 7: an authority table one place short
+    ∷ refusal sheet-E (table - 1) table 7
+    -- 7: a user table one place short
+    ∷ refusal sheet-E table (table - 1) 7
     -- 7: both
-    ∷ refusal sheet-E 303 303 7
+    ∷ refusal sheet-E (table - 1) (table - 1) 7
     -- 7: no places at all
-    ∷ refusal sheet-E 0 304 7
+    ∷ refusal sheet-E 0 table 7
     -- 7 before the sheet's own refusals: empty input, and edition 2
-    ∷ refusal [] 303 304 7
-    ∷ refusal (0x21 ∷ []) 304 303 7
+    ∷ refusal [] (table - 1) table 7
+    ∷ refusal (0x21 ∷ []) table (table - 1) 7
     -- 7 before a verdict that fails
-    ∷ refusal sheet-D 304 303 7
+    ∷ refusal sheet-D table (table - 1) 7
     ∷ []
 
 pub record Said : Type 0 where
@@ -88,22 +89,22 @@ unfoldable pub path-rows : List (Row StoredPath)
 unfolding verdict refusal row decoded stored-path stored-plain
 path-rows =
     -- 0: the counts, and each set first and then zeros
-    verdict (decoded false 1 (1 ∷ []) 2 (stored-plain 3 (11 ∷ 12 ∷ 15 ∷ []) 2 (11 ∷ 11 ∷ []) (13 ∷ 14 ∷ []) ∷ stored-plain 3 (12 ∷ 13 ∷ 16 ∷ []) 0 [] [] ∷ [])) 304 306 0 0 (1 ∷ 2 ∷ 2 ∷ []) (11 ∷ 12 ∷ []) (11 ∷ 12 ∷ [])
+    verdict (decoded false 1 (1 ∷ []) 2 (stored-plain 3 (11 ∷ 12 ∷ 15 ∷ []) 2 (11 ∷ 11 ∷ []) (13 ∷ 14 ∷ []) ∷ stored-plain 3 (12 ∷ 13 ∷ 16 ∷ []) 0 [] [] ∷ [])) table (table + 2) 0 0 (1 ∷ 2 ∷ 2 ∷ []) (11 ∷ 12 ∷ []) (11 ∷ 12 ∷ [])
     -- 10
-    ∷ verdict (decoded true 1 (51 ∷ []) 2 (stored-plain 1 (1 ∷ []) 1 (50 ∷ []) (51 ∷ []) ∷ stored-plain 1 (51 ∷ []) 0 [] [] ∷ [])) 306 305 10 2 (1 ∷ 1 ∷ 1 ∷ []) (50 ∷ []) []
+    ∷ verdict (decoded true 1 (51 ∷ []) 2 (stored-plain 1 (1 ∷ []) 1 (50 ∷ []) (51 ∷ []) ∷ stored-plain 1 (51 ∷ []) 0 [] [] ∷ [])) (table + 2) (table + 1) 10 2 (1 ∷ 1 ∷ 1 ∷ []) (50 ∷ []) []
     -- 8 and 9: both tables and the counts are all zero
-    ∷ verdict (decoded true 0 [] 1 (stored-plain 0 [] 0 [] [] ∷ [])) 304 305 8 1 [] [] []
-    ∷ verdict (decoded false 0 [] 2 (stored-plain 1 (70 ∷ []) 1 (1 ∷ []) (71 ∷ []) ∷ stored-plain 1 (70 ∷ []) 0 [] [] ∷ [])) 305 304 9 1 [] [] []
+    ∷ verdict (decoded true 0 [] 1 (stored-plain 0 [] 0 [] [] ∷ [])) table (table + 1) 8 1 [] [] []
+    ∷ verdict (decoded false 0 [] 2 (stored-plain 1 (70 ∷ []) 1 (1 ∷ []) (71 ∷ []) ∷ stored-plain 1 (70 ∷ []) 0 [] [] ∷ [])) (table + 1) table 9 1 [] [] []
     -- the refusals 3, 4 and 5 leave both tables
-    ∷ refusal (decoded false 0 [] 0 []) 304 305 3
-    ∷ refusal (decoded false 1 (0 ∷ []) 1 (stored-plain 0 [] 0 [] [] ∷ [])) 304 305 4
-    ∷ refusal (decoded true 0 [] 1 (stored-plain 2 (5 ∷ 5 ∷ []) 0 [] [] ∷ [])) 304 305 5
-    -- 7: a table of 303 places
-    ∷ refusal (decoded false 1 (1 ∷ []) 2 (stored-plain 3 (11 ∷ 12 ∷ 15 ∷ []) 2 (11 ∷ 11 ∷ []) (13 ∷ 14 ∷ []) ∷ stored-plain 3 (12 ∷ 13 ∷ 16 ∷ []) 0 [] [] ∷ [])) 303 304 7
-    ∷ refusal (decoded false 1 (1 ∷ []) 2 (stored-plain 3 (11 ∷ 12 ∷ 15 ∷ []) 2 (11 ∷ 11 ∷ []) (13 ∷ 14 ∷ []) ∷ stored-plain 3 (12 ∷ 13 ∷ 16 ∷ []) 0 [] [] ∷ [])) 304 303 7
+    ∷ refusal (decoded false 0 [] 0 []) table (table + 1) 3
+    ∷ refusal (decoded false 1 (0 ∷ []) 1 (stored-plain 0 [] 0 [] [] ∷ [])) table (table + 1) 4
+    ∷ refusal (decoded true 0 [] 1 (stored-plain 2 (5 ∷ 5 ∷ []) 0 [] [] ∷ [])) table (table + 1) 5
+    -- 7: a table one place short
+    ∷ refusal (decoded false 1 (1 ∷ []) 2 (stored-plain 3 (11 ∷ 12 ∷ 15 ∷ []) 2 (11 ∷ 11 ∷ []) (13 ∷ 14 ∷ []) ∷ stored-plain 3 (12 ∷ 13 ∷ 16 ∷ []) 0 [] [] ∷ [])) (table - 1) table 7
+    ∷ refusal (decoded false 1 (1 ∷ []) 2 (stored-plain 3 (11 ∷ 12 ∷ 15 ∷ []) 2 (11 ∷ 11 ∷ []) (13 ∷ 14 ∷ []) ∷ stored-plain 3 (12 ∷ 13 ∷ 16 ∷ []) 0 [] [] ∷ [])) table (table - 1) 7
     -- 7 before the path's own refusals
-    ∷ refusal (decoded false 0 [] 0 []) 303 304 7
-    ∷ refusal (decoded true 0 [] 1 (stored-plain 2 (5 ∷ 5 ∷ []) 0 [] [] ∷ [])) 304 303 7
+    ∷ refusal (decoded false 0 [] 0 []) (table - 1) table 7
+    ∷ refusal (decoded true 0 [] 1 (stored-plain 2 (5 ∷ 5 ∷ []) 0 [] [] ∷ [])) table (table - 1) 7
     ∷ []
 
 -- Every decoded path gets the outcome expected, by the graph and by the tree.

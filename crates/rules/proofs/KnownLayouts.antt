@@ -1,6 +1,6 @@
 -- Paths in the code's own types: as the rules read them, with their unused places cleared, and as the reader returns them.
 -- For each one table, and one claim that covers every row, by computation.
-use Prim.Native.Nat.{ℕ}
+use Prim.Native.Nat.{ℕ, _-_}
 use mathlib.Core.Bool.{Bool, true, false}
 use mathlib.Core.List.{List, [], _∷_, map}
 use mathlib.Core.Path.{_≡_, refl}
@@ -10,22 +10,23 @@ use Rattle.rules.specs.declared.Skip.the-variants.{Absent, Certificates}
 use Rattle.rules.specs.declared.Certificate.{Certificate as StoredCertificate}
 use Rattle.rules.specs.declared.Path.{Path as StoredPath}
 use Rattle.rules.specs.declared.Reading.{Reading as StoredReading}
+use Rattle.rules.specs.Limits.{certificates, listed}
 use Rattle.rules.specs.Paths.{Path}
 use Rattle.rules.specs.Layout.{path-of, cleared}
 use Rattle.rules.specs.Sheet.{reading}
 use Rattle.rules.proofs.Notation.{_to_, certificate, plain, path, filled, stored-certificate, stored-plain, stored-path, sheet-E}
 
--- A certificate whose unused places are zero: sixteen places in each array.
+-- A certificate whose unused places are zero.
 clear-certificate : Bool → ℕ → List ℕ → ℕ → List ℕ → List ℕ → Skip → Skip → Skip → StoredCertificate
 unfolding filled
 clear-certificate s pc ps mc ds ss re im ia =
     record {
       «self_issued» = s;
       «policy_count» = pc;
-      policies = filled 16 0 ps;
+      policies = filled listed 0 ps;
       «mapping_count» = mc;
-      issuers = filled 16 0 ds;
-      subjects = filled 16 0 ss;
+      issuers = filled listed 0 ds;
+      subjects = filled listed 0 ss;
       «require_explicit_policy» = re;
       «inhibit_policy_mapping» = im;
       «inhibit_any_policy» = ia;
@@ -35,7 +36,7 @@ clear-none : StoredCertificate
 unfolding clear-certificate
 clear-none = clear-certificate false 0 [] 0 [] [] Absent Absent Absent
 
--- A path with no more than two certificates, whose unused places are zero or absent: ten places for certificates, sixteen for user policies.
+-- A path with no more than two certificates, whose unused places are zero or absent.
 clear-path : Bool → Bool → Bool → ℕ → List ℕ → ℕ → StoredCertificate → StoredCertificate → StoredPath
 unfolding filled clear-none
 clear-path mi ep ai uc us n c d =
@@ -44,9 +45,9 @@ clear-path mi ep ai uc us n c d =
       «explicit_policy» = ep;
       «any_policy_inhibit» = ai;
       «user_count» = uc;
-      «user_policies» = filled 16 0 us;
+      «user_policies» = filled listed 0 us;
       «certificate_count» = n;
-      certificates = c ∷ d ∷ replicate 8 clear-none;
+      certificates = c ∷ d ∷ replicate (certificates - 2) clear-none;
     }
 
 pub record Row : Type 0 where

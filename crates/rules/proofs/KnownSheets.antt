@@ -1,23 +1,46 @@
 -- Sheets with known readings: bytes, and the path and the bit position after it, or the refusal's number. Where a path is read, writing it gives the bytes again.
 -- One table, and one claim that covers every row, by computation.
-use Prim.Native.Nat.{ℕ}
+use Prim.Native.Nat.{ℕ, suc, _+_, _*_, _/_}
 use mathlib.Core.Bool.{true, false}
-use mathlib.Core.List.{List, [], _∷_, map}
+use mathlib.Core.List.{List, [], _∷_, _++_, map}
 use mathlib.Core.Path.{_≡_, refl}
+use lib.ListN.{replicate}
 use Rattle.rules.specs.declared.Skip.the-variants.{Absent, Certificates}
+use Rattle.rules.specs.Limits.{certificates}
+use Rattle.rules.specs.Sets.{each}
 use Rattle.rules.specs.Paths.{Path}
 use Rattle.rules.specs.Sheet.{Read, refused, read, read-sheet, sheet-of}
-use Rattle.rules.proofs.Notation.{_to_, certificate, plain, path, case-E}
+use Rattle.rules.proofs.Notation.{_to_, certificate, plain, path, case-E, from}
 
 pub record Row : Type 0 where
   pub bytes : List ℕ
   pub reading : Read Path
 
-row : List ℕ → Read Path → Row
+unfoldable pub row : List ℕ → Read Path → Row
 row s r = record { bytes = s; reading = r }
 
+-- n certificates with no list and no skip value, six bits each
+certificates-row : ℕ → Row
+unfolding row path plain certificate
+certificates-row n = row ((0x10 + n) ∷ 0x00 ∷ replicate ((6 * n + 7) / 8) 0x00) (read (path false false false [] (replicate n (plain [] []))) (16 + 6 * n))
+
+-- m user policies from 2 upward, and a certificate
+unfoldable pub users-row : ℕ → Row
+unfolding row path plain certificate each from
+users-row m = row (0x11 ∷ m ∷ each (λ p. 0x00 ∷ p ∷ []) (from 2 m) ++ 0x00 ∷ []) (read (path false false false (from 2 m) (plain [] [] ∷ [])) (22 + 16 * m))
+
+-- a certificate with m policies from 2 upward, each of which starts at the last bit of a byte
+unfoldable pub policies-row : ℕ → Row
+unfolding row path plain certificate each from
+policies-row m = row (0x11 ∷ 0x00 ∷ (0x40 + 2 * m) ∷ each (λ p. 0x00 ∷ 2 * p ∷ []) (from 2 m) ++ 0x00 ∷ []) (read (path false false false [] (plain (from 2 m) [] ∷ [])) (27 + 16 * m))
+
+-- a certificate with m pairs, each of a policy from 2 upward and the next
+unfoldable pub pairs-row : ℕ → Row
+unfolding row path plain certificate _to_ each from
+pairs-row m = row (0x11 ∷ 0x00 ∷ (0x20 + m) ∷ each (λ p. 0x00 ∷ p ∷ 0x00 ∷ suc p ∷ []) (from 2 m) ++ 0x00 ∷ []) (read (path false false false [] (plain [] (map (λ p. p to suc p) (from 2 m)) ∷ [])) (27 + 32 * m))
+
 unfoldable pub rows : List Row
-unfolding row path plain certificate _to_ case-E
+unfolding row certificates-row users-row policies-row pairs-row path plain certificate _to_ case-E
 rows =
     -- case E's sheet
     row (0x11 ∷ 0x02 ∷ 0x00 ∷ 0x1E ∷ 0x00 ∷ 0x1F ∷ 0x42 ∷ 0x00 ∷ 0x02 ∷ 0x00 ∷ []) (read case-E 75)
@@ -35,14 +58,13 @@ rows =
     ∷ row (0x14 ∷ 0x00 ∷ 0x00 ∷ 0x00 ∷ 0x00 ∷ []) (read (path false false false [] (plain [] [] ∷ plain [] [] ∷ plain [] [] ∷ plain [] [] ∷ [])) 40)
     -- seven fill bits
     ∷ row (0x12 ∷ 0x00 ∷ 0x01 ∷ 0x08 ∷ 0x00 ∷ 0x28 ∷ 0x00 ∷ []) (read (path false false false [] (plain [] [] ∷ plain (5 ∷ []) [] ∷ [])) 49)
-    -- ten certificates
-    ∷ row (0x1A ∷ 0x00 ∷ 0x00 ∷ 0x00 ∷ 0x00 ∷ 0x00 ∷ 0x00 ∷ 0x00 ∷ 0x00 ∷ 0x00 ∷ []) (read (path false false false [] (plain [] [] ∷ plain [] [] ∷ plain [] [] ∷ plain [] [] ∷ plain [] [] ∷ plain [] [] ∷ plain [] [] ∷ plain [] [] ∷ plain [] [] ∷ plain [] [] ∷ [])) 76)
-    -- sixteen user policies
-    ∷ row (0x11 ∷ 0x10 ∷ 0x00 ∷ 0x02 ∷ 0x00 ∷ 0x03 ∷ 0x00 ∷ 0x04 ∷ 0x00 ∷ 0x05 ∷ 0x00 ∷ 0x06 ∷ 0x00 ∷ 0x07 ∷ 0x00 ∷ 0x08 ∷ 0x00 ∷ 0x09 ∷ 0x00 ∷ 0x0A ∷ 0x00 ∷ 0x0B ∷ 0x00 ∷ 0x0C ∷ 0x00 ∷ 0x0D ∷ 0x00 ∷ 0x0E ∷ 0x00 ∷ 0x0F ∷ 0x00 ∷ 0x10 ∷ 0x00 ∷ 0x11 ∷ 0x00 ∷ []) (read (path false false false (2 ∷ 3 ∷ 4 ∷ 5 ∷ 6 ∷ 7 ∷ 8 ∷ 9 ∷ 10 ∷ 11 ∷ 12 ∷ 13 ∷ 14 ∷ 15 ∷ 16 ∷ 17 ∷ []) (plain [] [] ∷ [])) 278)
-    -- sixteen policies
-    ∷ row (0x11 ∷ 0x00 ∷ 0x60 ∷ 0x00 ∷ 0x04 ∷ 0x00 ∷ 0x06 ∷ 0x00 ∷ 0x08 ∷ 0x00 ∷ 0x0A ∷ 0x00 ∷ 0x0C ∷ 0x00 ∷ 0x0E ∷ 0x00 ∷ 0x10 ∷ 0x00 ∷ 0x12 ∷ 0x00 ∷ 0x14 ∷ 0x00 ∷ 0x16 ∷ 0x00 ∷ 0x18 ∷ 0x00 ∷ 0x1A ∷ 0x00 ∷ 0x1C ∷ 0x00 ∷ 0x1E ∷ 0x00 ∷ 0x20 ∷ 0x00 ∷ 0x22 ∷ 0x00 ∷ []) (read (path false false false [] (plain (2 ∷ 3 ∷ 4 ∷ 5 ∷ 6 ∷ 7 ∷ 8 ∷ 9 ∷ 10 ∷ 11 ∷ 12 ∷ 13 ∷ 14 ∷ 15 ∷ 16 ∷ 17 ∷ []) [] ∷ [])) 283)
-    -- sixteen pairs
-    ∷ row (0x11 ∷ 0x00 ∷ 0x30 ∷ 0x00 ∷ 0x02 ∷ 0x00 ∷ 0x03 ∷ 0x00 ∷ 0x03 ∷ 0x00 ∷ 0x04 ∷ 0x00 ∷ 0x04 ∷ 0x00 ∷ 0x05 ∷ 0x00 ∷ 0x05 ∷ 0x00 ∷ 0x06 ∷ 0x00 ∷ 0x06 ∷ 0x00 ∷ 0x07 ∷ 0x00 ∷ 0x07 ∷ 0x00 ∷ 0x08 ∷ 0x00 ∷ 0x08 ∷ 0x00 ∷ 0x09 ∷ 0x00 ∷ 0x09 ∷ 0x00 ∷ 0x0A ∷ 0x00 ∷ 0x0A ∷ 0x00 ∷ 0x0B ∷ 0x00 ∷ 0x0B ∷ 0x00 ∷ 0x0C ∷ 0x00 ∷ 0x0C ∷ 0x00 ∷ 0x0D ∷ 0x00 ∷ 0x0D ∷ 0x00 ∷ 0x0E ∷ 0x00 ∷ 0x0E ∷ 0x00 ∷ 0x0F ∷ 0x00 ∷ 0x0F ∷ 0x00 ∷ 0x10 ∷ 0x00 ∷ 0x10 ∷ 0x00 ∷ 0x11 ∷ 0x00 ∷ 0x11 ∷ 0x00 ∷ 0x12 ∷ 0x00 ∷ []) (read (path false false false [] (plain [] (2 to 3 ∷ 3 to 4 ∷ 4 to 5 ∷ 5 to 6 ∷ 6 to 7 ∷ 7 to 8 ∷ 8 to 9 ∷ 9 to 10 ∷ 10 to 11 ∷ 11 to 12 ∷ 12 to 13 ∷ 13 to 14 ∷ 14 to 15 ∷ 15 to 16 ∷ 16 to 17 ∷ 17 to 18 ∷ []) ∷ [])) 539)
+    -- eleven certificates, and as many as a path may have
+    ∷ certificates-row 11
+    ∷ certificates-row certificates
+    -- seventeen user policies, policies and pairs; sheet/proofs/Known has full lists
+    ∷ users-row 17
+    ∷ policies-row 17
+    ∷ pairs-row 17
     -- ends: empty input
     ∷ row [] (refused 1)
     -- ends: case E cut to 1 bytes
@@ -89,28 +111,22 @@ rows =
     ∷ row (0x20 ∷ []) (refused 2)
     -- n is 0
     ∷ row (0x10 ∷ []) (refused 3)
-    -- n is 11
-    ∷ row (0x1B ∷ []) (refused 3)
-    -- n is 15
-    ∷ row (0x1F ∷ []) (refused 3)
-    -- user count 17
-    ∷ row (0x11 ∷ 0x11 ∷ []) (refused 3)
-    -- user count 31
-    ∷ row (0x11 ∷ 0x1F ∷ []) (refused 3)
-    -- user count 16 is none: the sheet ends
-    ∷ row (0x11 ∷ 0x10 ∷ []) (refused 1)
+    -- n is 11, and 15, all its bits set: no fault, the sheet ends
+    ∷ row (0x1B ∷ []) (refused 1)
+    ∷ row (0x1F ∷ []) (refused 1)
+    -- user count 17, and 31, all its bits set: no fault, the sheet ends
+    ∷ row (0x11 ∷ 0x11 ∷ []) (refused 1)
+    ∷ row (0x11 ∷ 0x1F ∷ []) (refused 1)
     -- policies present, count 0
     ∷ row (0x11 ∷ 0x00 ∷ 0x40 ∷ []) (refused 3)
-    -- policies present, count 17
-    ∷ row (0x11 ∷ 0x00 ∷ 0x62 ∷ []) (refused 3)
-    -- policies present, count 31
-    ∷ row (0x11 ∷ 0x00 ∷ 0x7E ∷ []) (refused 3)
+    -- policies present, count 17, and 31, all its bits set: no fault, the sheet ends
+    ∷ row (0x11 ∷ 0x00 ∷ 0x62 ∷ []) (refused 1)
+    ∷ row (0x11 ∷ 0x00 ∷ 0x7E ∷ []) (refused 1)
     -- mappings present, count 0
     ∷ row (0x11 ∷ 0x00 ∷ 0x20 ∷ []) (refused 3)
-    -- mappings present, count 17
-    ∷ row (0x11 ∷ 0x00 ∷ 0x31 ∷ []) (refused 3)
-    -- mappings present, count 31
-    ∷ row (0x11 ∷ 0x00 ∷ 0x3F ∷ []) (refused 3)
+    -- mappings present, count 17, and 31, all its bits set: no fault, the sheet ends
+    ∷ row (0x11 ∷ 0x00 ∷ 0x31 ∷ []) (refused 1)
+    ∷ row (0x11 ∷ 0x00 ∷ 0x3F ∷ []) (refused 1)
     -- user policy 0, the first
     ∷ row (0x11 ∷ 0x01 ∷ 0x00 ∷ 0x00 ∷ []) (refused 4)
     -- user policy 0, the second

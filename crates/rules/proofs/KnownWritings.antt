@@ -1,12 +1,13 @@
 -- What the writer answers and what its lent buffer then holds: one table, and one claim that covers every row, by computation.
-use Prim.Native.Nat.{ℕ}
+use Prim.Native.Nat.{ℕ, suc, _+_, _-_}
 use mathlib.Core.Bool.{false}
 use mathlib.Core.List.{List, [], _∷_, _++_, map}
 use mathlib.Core.Path.{_≡_, refl}
 use lib.ListN.{replicate}
 use Rattle.rules.specs.declared.Path.{Path as StoredPath}
+use Rattle.rules.specs.Limits.{listed, sheet-bytes}
 use Rattle.rules.specs.Sheet.{Written, written, as-written}
-use Rattle.rules.proofs.Notation.{stored-plain, stored-path, sheet-E}
+use Rattle.rules.proofs.Notation.{filled, stored-plain, stored-path, sheet-E}
 
 pub record Row : Type 0 where
   pub path : StoredPath
@@ -32,25 +33,25 @@ unfolding stored-path stored-plain
 listing p q = stored-path false false false 0 [] 1 (stored-plain 2 (p ∷ q ∷ []) 0 [] [] ∷ [])
 
 unfoldable pub rows : List Row
-unfolding row old case-E-with listing sheet-E
+unfolding row old filled case-E-with listing sheet-E
 rows =
-    -- a buffer of 1,043 bytes: 7, length 0, the buffer unchanged
-    row (case-E-with 2 1) (old 1043) 7 0 (old 1043)
+    -- a buffer one byte short: 7, length 0, the buffer unchanged
+    row (case-E-with 2 1) (old (sheet-bytes - 1)) 7 0 (old (sheet-bytes - 1))
     -- an empty buffer
     ∷ row (case-E-with 2 1) [] 7 0 []
     -- 7 before the path's own refusals
-    ∷ row (case-E-with 2 0) (old 1043) 7 0 (old 1043)
-    ∷ row (listing 5 5) (old 1043) 7 0 (old 1043)
-    -- a buffer of 1,044 bytes: 0, the sheet first, and every later byte unchanged
-    ∷ row (case-E-with 2 1) (old 1044) 0 10 (sheet-E ++ old 1034)
+    ∷ row (case-E-with 2 0) (old (sheet-bytes - 1)) 7 0 (old (sheet-bytes - 1))
+    ∷ row (listing 5 5) (old (sheet-bytes - 1)) 7 0 (old (sheet-bytes - 1))
+    -- a buffer of the longest sheet's bytes: 0, the sheet first, and every later byte unchanged
+    ∷ row (case-E-with 2 1) (old sheet-bytes) 0 10 (filled sheet-bytes 170 sheet-E)
     -- a longer buffer
-    ∷ row (case-E-with 2 1) (old 1046) 0 10 (sheet-E ++ old 1036)
+    ∷ row (case-E-with 2 1) (old (sheet-bytes + 2)) 0 10 (filled (sheet-bytes + 2) 170 sheet-E)
     -- the refusals 3, 4 and 5: length 0, the buffer unchanged
-    ∷ row (case-E-with 17 1) (old 1044) 3 0 (old 1044)
-    ∷ row (listing 5 0) (old 1044) 4 0 (old 1044)
-    ∷ row (listing 5 5) (old 1044) 5 0 (old 1044)
+    ∷ row (case-E-with (suc listed) 1) (old sheet-bytes) 3 0 (old sheet-bytes)
+    ∷ row (listing 5 0) (old sheet-bytes) 4 0 (old sheet-bytes)
+    ∷ row (listing 5 5) (old sheet-bytes) 5 0 (old sheet-bytes)
     -- two faults: the user policies before the policies
-    ∷ row (stored-path false false false 1 (0 ∷ []) 1 (stored-plain 2 (5 ∷ 5 ∷ []) 0 [] [] ∷ [])) (old 1044) 4 0 (old 1044)
+    ∷ row (stored-path false false false 1 (0 ∷ []) 1 (stored-plain 2 (5 ∷ 5 ∷ []) 0 [] [] ∷ [])) (old sheet-bytes) 4 0 (old sheet-bytes)
     ∷ []
 
 -- Every path is written, or refused, as expected.

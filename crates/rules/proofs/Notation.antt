@@ -1,5 +1,5 @@
 -- How the tables of known paths, sheets and answers are written.
-use Prim.Native.Nat.{ℕ, _-_}
+use Prim.Native.Nat.{ℕ, zero, suc, _-_}
 use mathlib.Core.Bool.{Bool, false}
 use mathlib.Core.List.{List, [], _∷_, _++_}
 use lib.ListN.{length, replicate}
@@ -32,6 +32,11 @@ unfoldable pub case-E : Path
 unfolding path plain certificate
 case-E = path false false false (30 ∷ 31 ∷ []) (plain (1 ∷ []) [] ∷ [])
 
+-- n, n + 1 and so on: k of them
+unfoldable pub from : ℕ → ℕ → List ℕ
+from n zero = []
+from n (suc k) = n ∷ from (suc n) k
+
 -- xs in the first of m places, and `rest` in the others
 unfoldable pub filled : ℕ → ℕ → List ℕ → List ℕ
 filled m rest xs = xs ++ replicate (m - length xs) rest
@@ -61,7 +66,7 @@ stored-plain pc ps mc ds ss = stored-certificate false pc ps mc ds ss Absent Abs
 -- a certificate with a fault in each of its fields, for the places that no rule may look at
 unfoldable pub faulty : StoredCertificate
 unfolding stored-plain
-faulty = stored-plain 17 [] 17 [] []
+faulty = stored-plain (suc Limits.listed) [] (suc Limits.listed) [] []
 
 -- A path in the code's own type: the three flags, a count and the user policies, a count and the certificates.
 unfoldable pub stored-path : Bool → Bool → Bool → ℕ → List ℕ → ℕ → List StoredCertificate → StoredPath

@@ -24,7 +24,7 @@ pub record Judged : Type 0 where
   pub user : List ℕ
   pub counts : List ℕ
 
--- the number and 256 times the place; the counts in the first eleven places
+-- the number and 256 times the place; the counts in the first places, one for each depth
 unfoldable pub exported : Outcome → List ℕ → Judged
 exported o C =
     record {

@@ -17,17 +17,17 @@ unfoldable pub edition-fault : ℕ → ℕ
 unfolding pick
 edition-fault e = pick (eqb e 1) 0 Numbers.wrong-edition
 
--- "n is 0 or above 10"
+-- "n is 0 or above" its limit, which a field of four bits cannot be
 unfoldable pub n-fault : ℕ → ℕ
 unfolding pick
 n-fault n = pick (eqb n 0 || ltb Limits.certificates n) Numbers.wrong-count 0
 
--- "user count above 16"; of a decoded path any count, "a count of 0 policies or pairs being absence"
+-- "user count above" its limit, which a field of five bits cannot be; of a decoded path any count, "a count of 0 policies or pairs being absence"
 unfoldable pub count-fault : ℕ → ℕ
 unfolding pick
 count-fault m = pick (ltb Limits.listed m) Numbers.wrong-count 0
 
--- "a certificate's present count 0 or above 16"
+-- "a certificate's present count 0 or above" its limit
 unfoldable pub present-fault : ℕ → ℕ
 unfolding pick
 present-fault m = pick (eqb m 0 || ltb Limits.listed m) Numbers.wrong-count 0

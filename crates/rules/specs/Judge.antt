@@ -16,7 +16,7 @@ use Rattle.rules.specs.Faults.{path-fault}
 use Rattle.rules.specs.Sheet.{Read, refused, read, read-sheet}
 use Rattle.rules.specs.Answers.{Answer}
 
--- the number, the place and the eleven counts, and what the lent tables then hold
+-- the number, the place and a count for each depth, and what the lent tables then hold
 pub record Outcome : Type 0 where
   pub number : ℕ
   pub place : ℕ

@@ -62,7 +62,7 @@ place-certificate c =
 unfoldable pub no-certificate : Certificate
 no-certificate = record { self-issued = false; policies = []; mappings = []; require-explicit = Absent; inhibit-mapping = Absent; inhibit-any = Absent }
 
--- "The certificates of a path lie side by side, ten places, in one record"
+-- "The certificates of a path lie side by side .. in one record": a place for each that a path may have
 unfoldable pub place-path : Path → StoredPath
 unfolding placed place-certificate no-certificate
 place-path p =

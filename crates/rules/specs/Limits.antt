@@ -1,26 +1,26 @@
--- Document 01's limits. src/lib.rt has the same as constants of the code, and its functions tie the two.
+-- The limits, as document 02's request Four has them. src/lib.rt has the same as constants of the code, and its functions tie the two.
 use Prim.Native.Nat.{ℕ, suc, _+_, _*_, _-_, _/_}
 
--- "A path has n certificates, 1 to 10"
+-- "n up to 15"
 abbrev pub certificates : ℕ
-certificates = 10
+certificates = 15
 
--- "0 to 16 policies; 0 to 16 mapping pairs", and a user list of 0 to 16
+-- "up to 31 user policies, policies and pairs"
 abbrev pub listed : ℕ
-listed = 16
+listed = 31
 
--- "at least 304 places each (10 x 16 policies and 9 x 16 mapping issuers)"
+-- "The lent tables need 899 places (15 x 31 and 14 x 31)": every policy, and every mapping issuer before the last certificate's
 abbrev pub table : ℕ
 table = certificates * listed + (certificates - 1) * listed
 
--- "eleven depth counts (0 to 10)"
+-- "the counts have sixteen places": depths 0 to n
 abbrev pub depths : ℕ
 depths = suc certificates
 
--- "The longest sheet is 8,352 bits": the head with its user policies, and each certificate with policies, pairs and three skip values
+-- the longest sheet in bits: the head with its user policies, and each certificate with policies, pairs and three skip values
 abbrev pub sheet-bits : ℕ
 sheet-bits = 4 + 4 + 3 + 5 + 16 * listed + certificates * (1 + 1 + 5 + 16 * listed + 1 + 5 + 32 * listed + 3 * (1 + 8))
 
--- "1,044 bytes"
+-- "the longest sheet is 2,929 bytes"
 abbrev pub sheet-bytes : ℕ
 sheet-bytes = (sheet-bits + 7) / 8

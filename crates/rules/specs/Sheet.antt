@@ -214,7 +214,7 @@ unfoldable pub written-unless : ℕ → List ℕ → List ℕ → Written
 written-unless zero sheet buffer = record { number = Numbers.valid; length = length sheet; buffer = sheet ++ drop (length sheet) buffer }
 written-unless (suc f) sheet buffer = record { number = suc f; length = 0; buffer = buffer }
 
--- "its lent buffer must hold 1,044 bytes or it answers 7, first"
+-- its lent buffer must hold the longest sheet "or it answers 7, first"
 unfoldable pub written : StoredPath → List ℕ → Written
 unfolding pick written-unless path-fault sheet-of path-of
 written p buffer =

@@ -2,11 +2,11 @@
 ghost use mathlib.Core.Path.{_≡_};
 ghost use Rattle.rules.specs.Limits as Limits;
 
-// "A path has n certificates, 1 to 10."
-pub const CERTIFICATES: usize = 10;
+// The most certificates of a path.
+pub const CERTIFICATES: usize = 15;
 
 // The most policies, mapping pairs or user policies of a list.
-pub const LISTED: usize = 16;
+pub const LISTED: usize = 31;
 
 // The places of a lent table: every policy and every mapping issuer before the last certificate's.
 pub const TABLE: usize = CERTIFICATES * LISTED + (CERTIFICATES - 1) * LISTED;

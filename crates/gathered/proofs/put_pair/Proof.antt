@@ -43,7 +43,7 @@ cast-ms : tie.Need-cast-ms
 cast-ms c = search needs
 
 slice-write-ms-3 : tie.Need-slice-write-ms-3
-slice-write-ms-3 c = omega (arith, c .before .before .before .pre .0, length-set (set (c .before .before .before .args .ms .now) (1 + c .wide .result) (c .before .before .before .args .issuer)) (17 + c .wide .result) (c .before .before .before .args .subject), length-set (c .before .before .before .args .ms .now) (1 + c .wide .result) (c .before .before .before .args .issuer))
+slice-write-ms-3 c = omega (arith, c .before .before .before .pre .0, length-set (set (c .before .before .before .args .ms .now) (1 + c .wide .result) (c .before .before .before .args .issuer)) (1 + Limits.listed + c .wide .result) (c .before .before .before .args .subject), length-set (c .before .before .before .args .ms .now) (1 + c .wide .result) (c .before .before .before .args .issuer))
 
 same-length : tie.Need-same-length
 same-length c = search needs
