@@ -7,5 +7,6 @@ pub mod Readers
 pub mod Whole
 pub mod Sheet
 pub mod Longest
+pub mod Counts
 pub mod Decoded
 pub mod Known
