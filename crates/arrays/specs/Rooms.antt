@@ -12,7 +12,14 @@ abbrev pub near-row : ℕ
 near-row = 64
 
 abbrev pub near-rows : ℕ
-near-rows = 512
+near-rows = 256
+
+-- and those of a middle size
+abbrev pub middle-row : ℕ
+middle-row = 256
+
+abbrev pub middle-rows : ℕ
+middle-rows = 4096
 
 -- a record of places that can be judged: a place is a u16, and the authority set fits a table
 pub record Judged (rec starts names : List ℕ) : Type 0 where

@@ -1,7 +1,7 @@
-// The judge on a record of places: a depth of the graph is a row with one number for each name, in small or large arrays.
+// The judge on a record of places: a depth of the graph is a row with one number for each name, in arrays of its size.
 ghost use mathlib.Core.Bool.{true};
 ghost use mathlib.Core.Path.{_≡_};
-ghost use Prim.Native.Nat.{_*_, _≤_};
+ghost use Prim.Native.Nat.{_*_, _≤_, _<_};
 ghost use lib.ListN.{length};
 ghost use Rattle.rules.specs.Limits as Limits;
 ghost use Rattle.rules.specs.Judge.{outcome, verdict};
@@ -11,7 +11,7 @@ ghost use Rattle.record.specs.Record.{most-places};
 ghost use Rattle.places.specs.Mapped.{path-named};
 ghost use Rattle.rows.specs.Store.{Clear};
 ghost use Rattle.conclusion.specs.Rooms.{NewRow};
-ghost use Rattle.arrays.specs.Rooms.{near-row, near-rows, Judged};
+ghost use Rattle.arrays.specs.Rooms.{near-row, near-rows, middle-row, middle-rows, Judged};
 use conclusion::concluded;
 use conclusion::failed;
 use record::RECORD;
@@ -19,11 +19,15 @@ use rules::Answer;
 use rules::CERTIFICATES;
 use walk::walk;
 
-// A row of at most this many names, and rows that have at most this many places together, take the small arrays: to clear the large
-// ones would cost an everyday path more than to judge it.
-const NEAR_ROW: usize = 64;
+// A row of at most so many names, and rows that have at most so many places together, take the small arrays, or else those of a middle
+// size: to clear the large ones would cost an everyday path more than to judge it.
+pub const NEAR_ROW: usize = 64;
 
-const NEAR_ROWS: usize = 512;
+pub const NEAR_ROWS: usize = 256;
+
+pub const MIDDLE_ROW: usize = 256;
+
+pub const MIDDLE_ROWS: usize = 4096;
 
 // Judges a record of places over lent room: a row for each certificate, and three rows more.
 fn judge_rows(
@@ -65,7 +69,7 @@ fn judge_rows(
     )
 }
 
-// The same over small arrays, and over arrays for any record.
+// The same over small arrays, over arrays of a middle size, and over arrays for any record.
 pub fn judge_near(
     rec: &[u16],
     starts: &[u16],
@@ -85,6 +89,38 @@ pub fn judge_near(
     let mut one = [0u8; NEAR_ROW];
     let mut two = [0u8; NEAR_ROW];
     let mut three = [0u8; NEAR_ROW];
+    judge_rows(
+        rec,
+        starts,
+        names,
+        &mut store,
+        &mut one[..u],
+        &mut two[..u],
+        &mut three[..u],
+        authority,
+        user,
+    )
+}
+
+pub fn judge_middle(
+    rec: &[u16],
+    starts: &[u16],
+    names: &[u16],
+    authority: &mut [u16],
+    user: &mut [u16],
+) -> Answer
+    requires { ⌜ Judged (now rec) (now starts) (now names) ⌝ }
+    requires { ⌜ length (now names) ≤ middle-row ⌝ }
+    requires { ⌜ at (now rec) 0 * length (now names) ≤ middle-rows ⌝ }
+    requires { ⌜ Limits.table ≤ length (now authority) ⌝ }
+    requires { ⌜ Limits.table ≤ length (now user) ⌝ }
+    ensures { λ r. ⌜ outcome r (now (authority .exit)) (now (user .exit)) ≡ verdict (Levels.judged (path-named (now (names .entry)) (now (rec .entry)))) (now (authority .entry)) (now (user .entry)) ⌝ }
+{
+    let u = names.len();
+    let mut store = [0u8; MIDDLE_ROWS];
+    let mut one = [0u8; MIDDLE_ROW];
+    let mut two = [0u8; MIDDLE_ROW];
+    let mut three = [0u8; MIDDLE_ROW];
     judge_rows(
         rec,
         starts,
@@ -129,15 +165,16 @@ pub fn judge_far(
     )
 }
 
-// Whether n rows of u names fit the small arrays.
-pub fn near(n: usize, u: usize) -> bool
+// Whether n rows of u names fit a row of `row` names, and `rows` places together.
+pub fn fits(n: usize, u: usize, row: usize, rows: usize) -> bool
     requires { ⌜ n ≤ Limits.certificates ⌝ }
-    ensures { λ r. ⌜ (r ≡ true → (u ≤ near-row) × (n * u ≤ near-rows)) ⌝ }
+    requires { ⌜ row < 65536 ⌝ }
+    ensures { λ r. ⌜ (r ≡ true → (u ≤ row) × (n * u ≤ rows)) ⌝ }
 {
-    if NEAR_ROW < u {
+    if row < u {
         return false;
     }
-    if NEAR_ROWS < n * u {
+    if rows < n * u {
         return false;
     }
     true

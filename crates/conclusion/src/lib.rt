@@ -30,7 +30,24 @@ use sets::fill;
 use sets::marked;
 use sets::members;
 
-// The names that are marked with 1 into a table, put in order in a scratch set. Says how many there are.
+// So many names, or fewer, are put in order in a small scratch set: to clear one of a table's places would cost an everyday path more.
+const NEAR_SET: usize = 64;
+
+// The names that are marked with 1 into a table, put in order in a lent scratch set. Says how many there are.
+fn fill_through(names: &[u16], marks: &[u8], set: &mut [u16], table: &mut [u16]) -> usize
+    requires { ⌜ Names (now names) ⌝ }
+    requires { ⌜ length (now marks) ≡ length (now names) ⌝ }
+    requires { ⌜ length (inherited-of (now names) (now marks)) ≤ length (now set) ⌝ }
+    requires { ⌜ length (inherited-of (now names) (now marks)) ≤ length (now table) ⌝ }
+    ensures { λ r. ⌜ r ≡ length (inherited-of (now (names .entry)) (now (marks .entry))) ⌝ }
+    ensures { λ r. ⌜ now (table .exit) ≡ placed (length (now (table .entry))) (inherited-of (now (names .entry)) (now (marks .entry))) ⌝ }
+{
+    let n = marked(names, marks, set);
+    fill(table, members(set, n));
+    n
+}
+
+// The same with a new scratch set, small where the names are few.
 fn fill_marked(names: &[u16], marks: &[u8], table: &mut [u16]) -> usize
     requires { ⌜ Names (now names) ⌝ }
     requires { ⌜ length (now marks) ≡ length (now names) ⌝ }
@@ -39,10 +56,12 @@ fn fill_marked(names: &[u16], marks: &[u8], table: &mut [u16]) -> usize
     ensures { λ r. ⌜ r ≡ length (inherited-of (now (names .entry)) (now (marks .entry))) ⌝ }
     ensures { λ r. ⌜ now (table .exit) ≡ placed (length (now (table .entry))) (inherited-of (now (names .entry)) (now (marks .entry))) ⌝ }
 {
+    if names.len() <= NEAR_SET {
+        let mut near = [0u16; NEAR_SET];
+        return fill_through(names, marks, &mut near, table);
+    }
     let mut set = [0u16; TABLE];
-    let n = marked(names, marks, &mut set);
-    fill(table, members(&set, n));
-    n
+    fill_through(names, marks, &mut set, table)
 }
 
 // Both sets into their tables: the authority set is marked in `marks`, and `spare` is a row of zeros. Says how many the user set has.

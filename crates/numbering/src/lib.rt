@@ -9,9 +9,14 @@ ghost use Rattle.record.specs.Record.{packed, most-places};
 ghost use Rattle.record.specs.Unpacked.{unpacked};
 ghost use Rattle.rows.specs.Store.{Clear};
 ghost use Rattle.numbering.specs.Packed.{Packed};
+use arrays::MIDDLE_ROW;
+use arrays::MIDDLE_ROWS;
+use arrays::NEAR_ROW;
+use arrays::NEAR_ROWS;
+use arrays::fits;
 use arrays::judge_far;
+use arrays::judge_middle;
 use arrays::judge_near;
-use arrays::near;
 use places::number_record;
 use record::N;
 use record::count_at;
@@ -42,9 +47,11 @@ pub fn judge_record(
     let mut starts = [0u16; CERTIFICATES];
     let u = number_record(rec, &mut starts, names, links, heads);
     let n = count_at(rec, 0, N);
-    if near(n, u) {
-        judge_near(rec, &starts, members(names, u), authority, user)
-    } else {
-        judge_far(rec, &starts, members(names, u), authority, user)
+    if fits(n, u, NEAR_ROW, NEAR_ROWS) {
+        return judge_near(rec, &starts, members(names, u), authority, user);
     }
+    if fits(n, u, MIDDLE_ROW, MIDDLE_ROWS) {
+        return judge_middle(rec, &starts, members(names, u), authority, user);
+    }
+    judge_far(rec, &starts, members(names, u), authority, user)
 }

@@ -39,6 +39,20 @@ length-inherited : (names marks : List ℕ) → Unique names → length (inherit
 unfolding inherited-of
 length-inherited names marks u = length-ascending (those 1 names marks) (unique-those 1 names marks u)
 
+-- there are no more names where a row has v than names
+those-few : (v : ℕ) (names row : List ℕ) → length (those v names row) ≤ length names
+unfolding those pick
+those-few v [] row = omega arith
+those-few v (n ∷ ns) [] = omega arith
+those-few v (n ∷ ns) (r ∷ rs) = go (eqb r v) (those-few v ns rs)
+  where
+    go : (b : Bool) → length (those v ns rs) ≤ length ns → length (pick b (n ∷ those v ns rs) (those v ns rs)) ≤ length (n ∷ ns)
+    go true h = omega (arith, h)
+    go false h = omega (arith, h)
+
+pub marked-few : (names marks : List ℕ) → Unique names → length (inherited-of names marks) ≤ length names
+marked-few names marks u = omega (arith, length-inherited names marks u, those-few 1 names marks)
+
 -- the marked names from place i on
 abbrev ahead : List ℕ → List ℕ → ℕ → List ℕ
 ahead names marks i = those 1 (drop i names) (drop i marks)

@@ -1,30 +1,22 @@
--- `fill_marked` meets its contract: the first places of the scratch set are the marked names, and the table is filled with them.
-use mathlib.Core.Path.{_≡_, ap, _∙_}
+-- `fill_marked` meets its contract: there are no more marked names than names, nor than a table has places.
 use native.Mathlib.Omega.{arith}
-use lib.ListN.{length}
-use denote.Ref.{now}
 use borrow.Author.Needs.{needs}
-use Rattle.rules.specs.Layout.{placed}
-use Rattle.rows.specs.Read.{inherited-of}
+use Rattle.sets.proofs.Marking.{marked-few}
 use Rattle.conclusion.proofs.fill_marked.Statement.{statement}
 use Rattle.conclusion.proofs.fill_marked.Tie as tie
-
-abbrev start : tie.After-members → tie.Start
-start c = c .before .before .before .before .before .before .before .before .before
-
-set-is : (c : tie.After-members) → now (c .members .result) ≡ inherited-of (start c .args .names .now) (start c .args .marks .now)
-set-is c = c .members .ensures ∙ c .before .before .before .before .marked .ensures .1
 
 pub fill-marked-spec : {M : Type 1} → statement M
 fill-marked-spec =
     tie.close
     (tie.spec
     (λ c. search needs)
-    (λ c κs. search needs)
+    (λ c κs.
+    let t = c .before .before in
+    let s = t .before .before .before .before in
+    (s .pre .0, (s .pre .1 .0, (omega (arith, marked-few (s .args .names .now) (s .args .marks .now) (s .pre .0 .once), t .if1 .taken), omega (arith, s .pre .1 .1)))))
     (λ c. search needs)
-    (λ c κs. search needs)
-    (λ c κs. omega (arith, ap length (set-is c), start c .pre))
+    (λ c. c .before .before .before .fill-through .ensures)
     (λ c. search needs)
-    (λ c.
-    let f = c .before .before in
-    (f .before .before .before .before .before .marked .ensures .0, f .fill .ensures ∙ ap (placed (length (start (f .before) .args .table .now))) (set-is (f .before)))))
+    (λ c κs. let s = c .before .before .before .before .before .before in (s .pre .0, (s .pre .1 .0, (s .pre .1 .1 .0, omega (arith, s .pre .1 .1)))))
+    (λ c. search needs)
+    (λ c. c .before .before .before .fill-through2 .ensures))

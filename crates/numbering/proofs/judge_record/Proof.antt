@@ -7,6 +7,7 @@ use lib.ListN.{length, take}
 use lib.Seq.{length-take-le}
 use denote.Ref.{now}
 use borrow.Author.Needs.{needs}
+use Rattle.rules.specs.Limits as Limits
 use Rattle.rules.specs.Judge.{verdict}
 use Rattle.levels.proofs.Levels.{judged}
 use Rattle.names.specs.Places.{at}
@@ -62,15 +63,34 @@ module _ (n : tie.After-number-record) (ns : List ℕ) (e : ns ≡ named n) wher
   judged-same : judged (path-named ns (rec-left n)) ≡ judged (unpacked (start n .args .rec .now))
   judged-same = ap (λ xs. judged (path-named xs (rec-left n))) e ∙ ap judged (same-path n)
 
--- the numbering before the record is judged, in either branch
+-- the numbering before the count of certificates is read, and before the record is judged, in each branch
+abbrev counted : tie.After-count-at → tie.After-number-record
+counted c = c .before .before .before .before .before .before .before .before .before .before .before
+
 abbrev numbered-near : tie.After-members → tie.After-number-record
 numbered-near m = m .before .before .before .before .before .before .before .before .before .before .before .before .before .before .before .before .before
 
-abbrev numbered-far : tie.After-members2 → tie.After-number-record
-numbered-far m = m .before .before .before .before .before .before .before .before .before .before .before .before .before .before .before .before .before
+abbrev numbered-middle : tie.After-members2 → tie.After-number-record
+numbered-middle m = m .before .before .before .before .before .before .before .before .before .before .before .before .before .before .before .before .before .before .before
 
-count : (c : tie.After-count-at) → c .count-at .result ≡ at (rec-left (c .before .before .before .before .before .before .before .before .before .before .before)) 0
+abbrev numbered-far : tie.After-members3 → tie.After-number-record
+numbered-far m = m .before .before .before .before .before .before .before .before .before .before .before .before .before .before .before .before .before .before .before
+
+count : (c : tie.After-count-at) → c .count-at .result ≡ at (rec-left (counted c)) 0
 count c = c .count-at .ensures
+
+few-certificates : (c : tie.After-count-at) → c .count-at .result ≤ Limits.certificates
+few-certificates c = omega (arith, count c, numbered (counted c) .most)
+
+-- the rows of a branch, where they fit
+module _ (c : tie.After-count-at) (ns : List ℕ) (e : ns ≡ named (counted c)) {row rows : ℕ} (fit : (counted c .number-record .result ≤ row) × (c .count-at .result * counted c .number-record .result ≤ rows)) where
+  wide : length ns ≤ row
+  wide = omega (arith, few (counted c) ns e, fit .0)
+
+  together : at (rec-left (counted c)) 0 * length ns ≤ rows
+  together =
+      let same : at (rec-left (counted c)) 0 * length ns ≡ c .count-at .result * counted c .number-record .result = ap₂ _*_ (sym (count c)) (few (counted c) ns e) in
+      omega (arith, same, fit .1)
 
 pub judge-record-spec : {M : Type 1} → statement M
 judge-record-spec =
@@ -93,22 +113,15 @@ judge-record-spec =
       heads-new = λ k h. s .pre .1 .1 .1 .1 .1 .1 .0 k;
     })
     (λ c κs. omega (arith, numbered (c .before .before .before .before .before .before .before .before .before .before) .head))
-    (λ c κs. omega (arith, count c, numbered (c .before .before .before .before .before .before .before .before .before .before .before) .most))
+    (λ c κs. (few-certificates c, omega arith))
     (λ c. search needs)
     (λ c κs. lent (c .before .before .before .before .before .before .before .before .before .before .before .before .before .before .before .before))
     (λ c κs.
     let m = c .before .before in
     let n = numbered-near m in
-    let small = c .before .before .before .before .before .before .before .near .ensures (c .before .before .before .before .before .before .if1 .taken) in
-    let u = few n (now (m .members .result)) (m .members .ensures) in
-    let rows : at (rec-left n) 0 * length (now (m .members .result)) ≡ c .before .before .before .before .before .before .before .before .count-at .result * n .number-record .result = ap₂ _*_ (sym (count (c .before .before .before .before .before .before .before .before))) u in
-    (ready n (now (m .members .result)) (m .members .ensures), (omega (arith, u, small .0), (omega (arith, rows, small .1), start n .pre .1 .1 .1 .1 .1 .1 .1))))
-    (λ c. search needs)
-    (λ c κs. lent (c .before .before .before .before .before .before .before .before .before .before .before .before .before .before .before .before))
-    (λ c κs.
-    let m = c .before .before in
-    let n = numbered-far m in
-    (ready n (now (m .members2 .result)) (m .members2 .ensures), (omega (arith, few n (now (m .members2 .result)) (m .members2 .ensures), n .number-record .ensures .0, start n .pre .1 .1 .1 .0), start n .pre .1 .1 .1 .1 .1 .1 .1)))
+    let fit = c .before .before .before .before .before .before .before .fits2 .ensures (c .before .before .before .before .before .before .if1 .taken) in
+    let ns = now (m .members .result) in
+    (ready n ns (m .members .ensures), (wide (c .before .before .before .before .before .before .before .before) ns (m .members .ensures) fit, (together (c .before .before .before .before .before .before .before .before) ns (m .members .ensures) fit, start n .pre .1 .1 .1 .1 .1 .1 .1))))
     (λ c. search needs)
     (λ c. search needs)
     (λ c. search needs)
@@ -119,6 +132,31 @@ judge-record-spec =
     let m = c .before .before .before .before .before .before .before in
     let n = numbered-near m in
     c .before .before .before .before .judge-near .ensures ∙ ap (λ a. verdict a (start n .args .authority .now) (start n .args .user .now)) (judged-same n (now (m .members .result)) (m .members .ensures)))
+    (λ c κs. (few-certificates (c .before .before), omega arith))
+    (λ c. search needs)
+    (λ c κs. lent (c .before .before .before .before .before .before .before .before .before .before .before .before .before .before .before .before .before .before))
+    (λ c κs.
+    let m = c .before .before in
+    let n = numbered-middle m in
+    let fit = c .before .before .before .before .before .before .before .fits3 .ensures (c .before .before .before .before .before .before .if2 .taken) in
+    let ns = now (m .members2 .result) in
+    (ready n ns (m .members2 .ensures), (wide (c .before .before .before .before .before .before .before .before .before .before) ns (m .members2 .ensures) fit, (together (c .before .before .before .before .before .before .before .before .before .before) ns (m .members2 .ensures) fit, start n .pre .1 .1 .1 .1 .1 .1 .1))))
+    (λ c. search needs)
+    (λ c. search needs)
+    (λ c. search needs)
+    (λ c. search needs)
+    (λ c. search needs)
+    (λ c. search needs)
+    (λ c.
+    let m = c .before .before .before .before .before .before .before in
+    let n = numbered-middle m in
+    c .before .before .before .before .judge-middle .ensures ∙ ap (λ a. verdict a (start n .args .authority .now) (start n .args .user .now)) (judged-same n (now (m .members2 .result)) (m .members2 .ensures)))
+    (λ c. search needs)
+    (λ c κs. lent (c .before .before .before .before .before .before .before .before .before .before .before .before .before .before .before .before .before .before))
+    (λ c κs.
+    let m = c .before .before in
+    let n = numbered-far m in
+    (ready n (now (m .members3 .result)) (m .members3 .ensures), (omega (arith, few n (now (m .members3 .result)) (m .members3 .ensures), n .number-record .ensures .0, start n .pre .1 .1 .1 .0), start n .pre .1 .1 .1 .1 .1 .1 .1)))
     (λ c. search needs)
     (λ c. search needs)
     (λ c. search needs)
@@ -128,4 +166,4 @@ judge-record-spec =
     (λ c.
     let m = c .before .before .before .before .before .before .before in
     let n = numbered-far m in
-    c .before .before .before .before .judge-far .ensures ∙ ap (λ a. verdict a (start n .args .authority .now) (start n .args .user .now)) (judged-same n (now (m .members2 .result)) (m .members2 .ensures))))
+    c .before .before .before .before .judge-far .ensures ∙ ap (λ a. verdict a (start n .args .authority .now) (start n .args .user .now)) (judged-same n (now (m .members3 .result)) (m .members3 .ensures))))
