@@ -1,21 +1,20 @@
 -- What the path of a record without fault has: its lists are within the limits, it has a certificate, no certificate repeats a policy, and its
--- record fits the longest one's places.
-use Prim.Native.Nat.{ℕ, zero, suc, _+_, _*_, _≤_, _<_}
-use mathlib.Core.List.{List, [], _∷_, map}
+-- record fits the places for so many certificates, and those of the longest record.
+use Prim.Native.Nat.{ℕ, zero, suc, _≤_, _<_}
+use mathlib.Core.List.{List, map}
 use mathlib.Core.Path.{_≡_, sym, subst}
 use mathlib.Core.Logic.{⊎-elim}
 use native.Mathlib.Omega.{arith}
 use lib.ListN.{length, getD}
-use Rattle.rules.specs.Limits as Limits
-use Rattle.rules.specs.Paths.{Certificate, Path}
+use Rattle.rules.specs.Paths.{Certificate}
 use Rattle.laws.proofs.Sets.{In, In-cons, Unique}
 use Rattle.agreement.proofs.Same.{WellFormed}
 use Rattle.sheet.proofs.Faults.{no-repeats}
 use Rattle.sheet.proofs.WellFormed.{not-empty}
-use Rattle.record.specs.Record.{packed, most-places}
+use Rattle.record.specs.Record.{packed, places-of, most-places}
 use Rattle.record.specs.Unpacked.{unpacked-certificate, after-certificate, unpacked-certificates, unpacked}
 use Rattle.record.specs.Within.{FewInCertificate, Few}
-use Rattle.record.proofs.Few.{few-most}
+use Rattle.record.proofs.Few.{few-places, few-most}
 use Rattle.given.specs.Given.{bounded, path-given}
 use Rattle.given.specs.Faults.{certificates-record-fault, record-fault}
 use Rattle.accept.proofs.Steps.{after-users}
@@ -65,6 +64,9 @@ pub given-well-formed : (r : List ℕ) → record-fault r ≡ 0 → WellFormed (
 unfolding path-given unpacked
 given-well-formed r e =
     record { some-certificate = not-empty _ (given-some r e); no-repeats = unique-all (getD r 0 0) (after-users r) (sound-path r e .certificates) }
+
+pub given-near : (r : List ℕ) → record-fault r ≡ 0 → length (packed (path-given r)) ≤ places-of (getD r 0 0)
+given-near r e = omega (arith, few-places (path-given r) (given-few r e), given-length r (sound-path r e))
 
 pub given-most : (r : List ℕ) → record-fault r ≡ 0 → length (packed (path-given r)) ≤ most-places
 given-most r e = few-most (path-given r) (given-few r e)

@@ -23,7 +23,7 @@ ghost use mathlib.Core.Path.{_≡_};
 ghost use mathlib.Core.List.{_++_};
 ghost use Prim.Native.Nat.{_+_, _≤_, _<_};
 ghost use lib.ListN.{length, drop, getD};
-ghost use Rattle.record.specs.Record.{flag-number, skip-number, packed-certificate, head, packed, most-places};
+ghost use Rattle.record.specs.Record.{flag-number, skip-number, packed-certificate, head, packed};
 ghost use Rattle.record.specs.Unpacked.{flag-of, skip-of, unpacked-certificate, after-certificate};
 ghost use Rattle.record.specs.Puts.{Room, Puts, Starts};
 ghost use Rattle.given.specs.Given.{bounded-skip, bounded, path-given};
@@ -162,7 +162,7 @@ fn accept_head(given: &[u16], rec: &mut [u16]) -> usize
 // The record of the path that a record handed over stands for: flags 0 or 1, skip values bounded. Says how many places it takes.
 pub fn accept(given: &[u16], rec: &mut [u16]) -> usize
     requires { ⌜ record-fault (now given) ≡ 0 ⌝ }
-    requires { ⌜ most-places ≤ length (now rec) ⌝ }
+    requires { ⌜ length (packed (path-given (now given))) ≤ length (now rec) ⌝ }
     ensures { λ r. ⌜ Starts (now (rec .entry)) (packed (path-given (now (given .entry)))) (now (rec .exit)) r ⌝ }
 {
     let mut at = accept_head(given, rec);

@@ -1,11 +1,18 @@
 // The judge, the sheet's codec and the extensions' reader for C and Rust: numbers and slices alone.
 ghost use mathlib.Core.Bool.{not};
 ghost use mathlib.Core.Path.{_≡_};
+ghost use Prim.Native.Nat.{_≤_, _<_};
 ghost use lib.Dec.{eqb};
+ghost use lib.ListN.{length};
+ghost use Rattle.rules.specs.Limits as Limits;
 ghost use Rattle.rules.specs.Face.{Judged, sheet-exported, Rewritten, sheet-rewritten};
+ghost use Rattle.reader.specs.Room.{RoomFor};
 ghost use Rattle.extension_rules.specs.Face.{Lent, extensions-read};
 ghost use Rattle.given.specs.Face.{record-exported, record-written, write-exported, Recorded, sheet-recorded};
 use crate::judge_sheet;
+use reader::certificates_named;
+use record::NEAR_CERTIFICATES;
+use record::NEAR_RECORD;
 use record::RECORD;
 use rules::DEPTHS;
 use rules::SHEET_BYTES;
@@ -14,8 +21,8 @@ use rules::TABLE;
 // "a lent table is too short"
 const SHORT: u32 = rules::TABLE_SHORT as u32;
 
-// The judge on a sheet: the number and 256 times the place. The counts go to the first eleven places of `counts`.
-// 7 where a table has fewer than 304 places or `counts` fewer than eleven: then nothing is written.
+// The judge on a sheet: the number and 256 times the place. The counts go to the first DEPTHS places of `counts`.
+// 7 where a table has fewer than TABLE places or `counts` fewer than DEPTHS: then nothing is written.
 #[no_mangle]
 pub extern "C" fn skandrulo_judge_sheet(
     sheet: &[u8],
@@ -40,8 +47,22 @@ pub extern "C" fn skandrulo_judge_sheet(
     (answer.number as u32) + 256 * (answer.place as u32)
 }
 
+// A sheet read into a lent record, and its path written again; the buffer is long enough. What the record then holds is left free.
+fn rewrite_in(sheet: &[u8], rec: &mut [u16], buffer: &mut [u8]) -> u32
+    requires { ⌜ RoomFor (now sheet) (now rec) ⌝ }
+    requires { ⌜ length (now rec) < 65536 ⌝ }
+    requires { ⌜ Limits.sheet-bytes ≤ length (now buffer) ⌝ }
+    ensures { λ r. ⌜ _≡_ {A = Rewritten} (record { result = r; buffer = now (buffer .exit) }) (sheet-rewritten (now (sheet .entry)) (now (buffer .entry))) ⌝ }
+{
+    let next = reader::read_record(sheet, rec);
+    if next.number != 0 {
+        return next.number as u32;
+    }
+    256 * (writer::write_record(rec, buffer) as u32)
+}
+
 // Reads a sheet and writes its path again: the refusal, or 256 times the sheet's length with the sheet first in the buffer.
-// 7 where the buffer has fewer than 1,044 bytes. After a refusal nothing is written.
+// 7 where the buffer has fewer than SHEET_BYTES bytes. After a refusal nothing is written.
 #[no_mangle]
 pub extern "C" fn skandrulo_rewrite_sheet(sheet: &[u8], buffer: &mut [u8]) -> u32
     ensures { λ r. ⌜ _≡_ {A = Rewritten} (record { result = r; buffer = now (buffer .exit) }) (sheet-rewritten (now (sheet .entry)) (now (buffer .entry))) ⌝ }
@@ -49,16 +70,16 @@ pub extern "C" fn skandrulo_rewrite_sheet(sheet: &[u8], buffer: &mut [u8]) -> u3
     if buffer.len() < SHEET_BYTES {
         return SHORT;
     }
-    let mut rec = [0u16; RECORD];
-    let next = reader::read_record(sheet, &mut rec);
-    if next.number != 0 {
-        return next.number as u32;
+    if certificates_named(sheet) <= NEAR_CERTIFICATES {
+        let mut near = [0u16; NEAR_RECORD];
+        return rewrite_in(sheet, &mut near, buffer);
     }
-    256 * (writer::write_record(&rec, buffer) as u32)
+    let mut rec = [0u16; RECORD];
+    rewrite_in(sheet, &mut rec, buffer)
 }
 
-// The judge on a record handed over: the number and 256 times the place. The counts go to the first eleven places of `counts`.
-// 7 where a table has fewer than 304 places or `counts` fewer than eleven: then nothing is written.
+// The judge on a record handed over: the number and 256 times the place. The counts go to the first DEPTHS places of `counts`.
+// 7 where a table has fewer than TABLE places or `counts` fewer than DEPTHS: then nothing is written.
 #[no_mangle]
 pub extern "C" fn skandrulo_judge_record(
     given: &[u16],
@@ -72,7 +93,7 @@ pub extern "C" fn skandrulo_judge_record(
 }
 
 // The sheet of a record's path, first in the buffer: the refusal, or 256 times the sheet's length.
-// 7 where the buffer has fewer than 1,044 bytes. After a refusal nothing is written.
+// 7 where the buffer has fewer than SHEET_BYTES bytes. After a refusal nothing is written.
 #[no_mangle]
 pub extern "C" fn skandrulo_write_record(given: &[u16], buffer: &mut [u8]) -> u32
     ensures { λ r. ⌜ _≡_ {A = Rewritten} (record { result = r; buffer = now (buffer .exit) }) (write-exported (record-written (now (given .entry)) (now (buffer .entry)))) ⌝ }

@@ -173,27 +173,28 @@ module _ (s : List ℕ) where
     head-is us n f = head-row ∙ then-read _ e ∙ then-read _ f
 
 -- a head that was read: its counts are within the limits, and its position is near
-pub record HeadKnown (h : Head) (at : ℕ) : Type 0 where
+pub record HeadKnown (s : List ℕ) (h : Head) (at : ℕ) : Type 0 where
+  pub named : field s 4 4 ≡ h .start .n
   pub certificates : h .start .n ≤ Limits.certificates
   pub users : h .start .user-count ≤ Limits.listed
   pub count : length (h .users) ≡ h .start .user-count
   pub near : at ≡ 16 + 16 * h .start .user-count
 
-pub head-known : (s : List ℕ) (bits : ℕ) → BitsOf s bits → (h : Head) (at : ℕ) → read-head s ≡ read h at → HeadKnown h at
+pub head-known : (s : List ℕ) (bits : ℕ) → BitsOf s bits → (h : Head) (at : ℕ) → read-head s ≡ read h at → HeadKnown s h at
 head-known s bits b h at e = go (start-fault bits v) refl
   where
     v : ℕ
     v = field s 0 16
 
-    go : (f : ℕ) → start-fault bits v ≡ f → HeadKnown h at
+    go : (f : ℕ) → start-fault bits v ≡ f → HeadKnown s h at
     go (suc f) g = absurd (not-refused (sym (head-start-refused s _ (fetched-refused s bits b v refl (λ z. omega arith))) ∙ e))
     go zero g =
         let st = fetched-read s bits b v refl g in
         let few = start-few bits v g in
         let both = then-back (read-policies s (list-fault false) (v % 32) [] 16) (λ us at. read (record { start = start-of v; users = us }) at) h at (sym (head-row s ∙ then-read _ st) ∙ e) in
         let law = policies-at s (list-fault false) (v % 32) 16 (both .value) (both .at) (both .first) in
-        subst (λ (k : Head). HeadKnown k at) (read-value (both .rest))
-        (record { certificates = few .0; users = few .1; count = law .1; near = sym (read-place (both .rest)) ∙ law .0 })
+        subst (λ (k : Head). HeadKnown s k at) (read-value (both .rest))
+        (record { named = n-is s bits b; certificates = few .0; users = few .1; count = law .1; near = sym (read-place (both .rest)) ∙ law .0 })
 
 -- reading the head refuses by a number other than 0
 
@@ -228,7 +229,7 @@ pub record HeadWas (s : List ℕ) (r : Next) : Type 0 where
   pub value : Head
   pub said : read-head s ≡ read value (r .bit)
   pub place : r .place ≡ 0 + length (numbers-of-head value)
-  pub known : HeadKnown value (r .bit)
+  pub known : HeadKnown s value (r .bit)
 
 pub head-was : (s : List ℕ) (bits : ℕ) → BitsOf s bits → (r : Next) → r ≡ as-next numbers-of-head 0 (read-head s) → r .number ≡ 0 → HeadWas s r
 head-was s bits b r e z = go (read-head s) refl e

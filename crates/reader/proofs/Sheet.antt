@@ -17,11 +17,10 @@ use Rattle.rules.specs.Sheet.{Read, refused, read, _then_, read-path, ends-at, 
 use Rattle.laws.proofs.Sets.{In, here, there}
 use Rattle.sheet.proofs.Writable.{SkipFits, Writable}
 use Rattle.sheet.proofs.Sheet.{read-writable}
-use Rattle.record.specs.Record.{skip-number, packed, most-places}
+use Rattle.record.specs.Record.{skip-number, packed}
 use Rattle.record.specs.Puts.{Puts, Starts, Stands}
 use Rattle.record.specs.Within.{FewInCertificate, Few, WithinCertificate, Holds}
 use Rattle.record.proofs.Put.{starts}
-use Rattle.record.proofs.Few.{few-most}
 use Rattle.read_certificate.specs.declared.Next.{Next}
 use Rattle.read_lists.specs.Lists.{Reads}
 use Rattle.read_certificate.specs.Certificate.{as-next}
@@ -110,14 +109,14 @@ pub record SheetWas (s rec t : List ℕ) (r : Next) : Type 0 where
   pub starts : Starts rec (packed value) t (r .place)
   pub holds : Holds t value
 
-pub sheet-was : (s rec t : List ℕ) (r : Next) → most-places ≤ length rec → Reads (as-next packed 0) (read-sheet s) packed rec 0 t r → r .number ≡ 0 → SheetWas s rec t r
-sheet-was s rec t r h e z =
+pub sheet-was : (s rec t : List ℕ) (r : Next) → Reads (as-next packed 0) (read-sheet s) packed rec 0 t r × (r .place ≤ length rec) → r .number ≡ 0 → SheetWas s rec t r
+sheet-was s rec t r (e, h) z =
     let w = was-read (nexts packed 0) path-span (read-sheet s) (sheet-reach s) r (e .said) z in
     let p = w .value in
     let said = w .said ∙ ap (read p) (sym (ap (λ (r : Next). r .bit) (w .holds))) in
     let ok = read-writable s p (w .at) (w .said) in
     let put : Puts rec 0 (packed p) t (r .place) = record { next = ap (λ (r : Next). r .place) (w .holds); places = e .places p (w .at) (w .said) } in
-    let st = starts (omega (arith, h, few-most p (writable-few p ok))) put in
+    let st = starts (omega (arith, h, put .next)) put in
     record { value = p; said = said; writable = ok; starts = st; holds = writable-holds t p ok (ap (λ n. take n t) (sym (st .length)) ∙ st .places) }
 
 -- what the reader answers

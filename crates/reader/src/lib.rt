@@ -5,11 +5,13 @@ ghost use lib.ListN.{length};
 ghost use Rattle.rules.specs.Limits as Limits;
 ghost use Rattle.rules.specs.Layout.{place-path, no-path};
 ghost use Rattle.rules.specs.Sheet.{read-path, ends-at, read-sheet, reading};
-ghost use Rattle.record.specs.Record.{head-places, packed, most-places};
+ghost use Rattle.record.specs.Record.{head-places, packed};
 ghost use Rattle.read_fields.specs.Fields.{BitsOf};
 ghost use Rattle.read_lists.specs.Lists.{Reads};
 ghost use Rattle.read_certificate.specs.Certificate.{as-next};
+ghost use Rattle.rules.specs.Bits.{field};
 ghost use Rattle.reader.specs.Head.{start-fault, read-head, numbers-of-head};
+ghost use Rattle.reader.specs.Room.{RoomFor};
 use bitfield::Field;
 use bitfield::peek;
 use bitfield::read_field;
@@ -60,6 +62,13 @@ fn start_fault(bits: usize, fetched: u16) -> u8
     0
 }
 
+// The number of certificates that the head of a sheet names, of the empty sheet 0: it says how long a record to lend.
+pub fn certificates_named(s: &[u8]) -> usize
+    ensures { λ r. ⌜ r ≡ field (now (s .entry)) 4 4 ⌝ }
+{
+    (peek(s, 0) / 256 % 16) as usize
+}
+
 // The head of the sheet, into the record's first places.
 fn read_head(s: &[u8], bits: usize, rec: &mut [u16]) -> Next
     requires { ⌜ BitsOf (now s) bits ⌝ }
@@ -94,8 +103,9 @@ fn read_head(s: &[u8], bits: usize, rec: &mut [u16]) -> Next
 // The head and the certificates, into the record.
 fn read_path(s: &[u8], bits: usize, rec: &mut [u16]) -> Next
     requires { ⌜ BitsOf (now s) bits ⌝ }
-    requires { ⌜ most-places ≤ length (now rec) ⌝ }
+    requires { ⌜ RoomFor (now s) (now rec) ⌝ }
     ensures { λ r. ⌜ Reads (as-next packed 0) (read-path (now (s .entry))) packed (now (rec .entry)) 0 (now (rec .exit)) r ⌝ }
+    ensures { λ r. ⌜ r .place ≤ length (now (rec .entry)) ⌝ }
 {
     let head = read_head(s, bits, rec);
     if head.number != 0 {
@@ -139,8 +149,9 @@ fn ends_at(s: &[u8], at: usize) -> bool
 // Reads a sheet into the record of its path, which starts `rec`: 0 and where both end, or the first refusal. After a refusal the
 // record is left free.
 pub fn read_record(s: &[u8], rec: &mut [u16]) -> Next
-    requires { ⌜ most-places ≤ length (now rec) ⌝ }
+    requires { ⌜ RoomFor (now s) (now rec) ⌝ }
     ensures { λ r. ⌜ Reads (as-next packed 0) (read-sheet (now (s .entry))) packed (now (rec .entry)) 0 (now (rec .exit)) r ⌝ }
+    ensures { λ r. ⌜ r .place ≤ length (now (rec .entry)) ⌝ }
 {
     let next = read_path(s, bits_of(s), rec);
     if next.number != 0 {

@@ -1,4 +1,4 @@
--- The room that every path within the limits fits.
+-- The room that a path within the limits fits: by the number of its certificates, and at most.
 use Prim.Native.Nat.{ℕ, suc, _+_, _*_, _≤_, _<_}
 use mathlib.Core.List.{List, [], _∷_}
 use native.Mathlib.Omega.{arith}
@@ -6,7 +6,7 @@ use lib.ListN.{length, getD, length-append}
 use Rattle.rules.specs.Limits as Limits
 use Rattle.rules.specs.Sets.{each}
 use Rattle.rules.specs.Paths.{Certificate, Path}
-use Rattle.record.specs.Record.{certificate-head-places, packed-certificate, head, packed, most-places}
+use Rattle.record.specs.Record.{certificate-head-places, packed-certificate, head, packed, places-of, most-places}
 use Rattle.record.specs.Within.{FewInCertificate, Few}
 use Rattle.record.proofs.Stands.{certificate-length}
 
@@ -19,7 +19,10 @@ certificates-most (c ∷ cs) f =
     omega
     (arith, length-append (packed-certificate c) (each packed-certificate cs), certificate-length c, g .policies, g .mappings, certificates-most cs (λ i d h. f (suc i) d (omega arith)))
 
-pub few-most : (p : Path) → Few p → length (packed p) ≤ most-places
+pub few-places : (p : Path) → Few p → length (packed p) ≤ places-of (length (p .certificates))
 unfolding packed head
-few-most p f =
-    omega (arith, length-append (p .user-list) (each packed-certificate (p .certificates)), f .users, f .certificates, certificates-most (p .certificates) (f .each-certificate))
+few-places p f =
+    omega (arith, length-append (p .user-list) (each packed-certificate (p .certificates)), f .users, certificates-most (p .certificates) (f .each-certificate))
+
+pub few-most : (p : Path) → Few p → length (packed p) ≤ most-places
+few-most p f = omega (arith, few-places p f, f .certificates)

@@ -41,6 +41,14 @@ pub const RECORD: usize = HEAD
     + LISTED
     + CERTIFICATES * (CERTIFICATE_HEAD + LISTED + LISTED + LISTED);
 
+// A path of so many certificates, or fewer, is read or accepted into a record of so many places: to clear the longest would cost an
+// everyday path more than to read it.
+pub const NEAR_CERTIFICATES: usize = 4;
+
+pub const NEAR_RECORD: usize = HEAD
+    + LISTED
+    + NEAR_CERTIFICATES * (CERTIFICATE_HEAD + LISTED + LISTED + LISTED);
+
 pub fn record_places() -> usize
     ensures { λ r. ⌜ r ≡ most-places ⌝ }
 {

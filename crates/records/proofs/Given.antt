@@ -12,14 +12,17 @@ use Rattle.rules.specs.Paths.{Path}
 use Rattle.rules.specs.Faults as Faults
 use Rattle.rules.specs.Graph as Graph
 use Rattle.rules.specs.Tree as Tree
-use Rattle.rules.specs.Judge.{Outcome, outcome, refusal, verdict, unless-short, unless-fault, Bounded}
+use Rattle.rules.specs.Judge.{Outcome, outcome, verdict, unless-short, unless-fault, Bounded}
 use Rattle.rules.specs.Face.{refused-answer}
-use Rattle.record.specs.Record.{head-places, certificate-head-places}
+use Rattle.record.specs.Record.{head-places, certificate-head-places, packed}
 use Rattle.record.specs.Unpacked.{unpacked-certificate, after-certificate, unpacked}
+use Rattle.record.specs.Puts.{Starts}
 use Rattle.given.specs.Given.{path-given}
 use Rattle.given.specs.Faults.{short-fault, certificate-record-fault, certificates-record-fault, record-fault}
 use Rattle.given.specs.Face.{after-faults, record-judged, record-exported}
-use Rattle.accept.proofs.Given.{given-well-formed}
+use Rattle.graph.specs.Sound.{Sound}
+use Rattle.graph.proofs.Fits as fits
+use Rattle.accept.proofs.Given.{given-few, given-well-formed}
 use Rattle.demands.proofs.Numbered.{pick-most, n-most, count-most, user-most, listed-most, or-most, policies-fault-most, mappings-fault-most, fault-most, short-most}
 use Rattle.demands.proofs.Promise.{outcome-number, outcome-counts, Settled, well-formed-settled, unless-short-all, bounded-refusal, fault-tree, fault-bounded}
 use Rattle.demands.proofs.Outcomes as outcomes
@@ -57,6 +60,10 @@ record-fault-most r =
     (or-most _ _ (count-most u)
     (or-most _ _ (short-fault-most r (head-places + u))
     (or-most _ _ (policies-fault-most Faults.user-fault user-most [] ((unpacked r) .user-list)) (certificates-most (getD r 0 0) (drop u (drop head-places r)))))))
+
+-- the record of a path handed over, as the engine and the writer ask for it
+pub accepted : (r s t : List ℕ) (n : ℕ) → record-fault r ≡ 0 → Starts s (packed (path-given r)) t n → length t < 65536 → Sound t n × (unpacked t ≡ path-given r)
+accepted r s t n e st h = fits.sound t n (path-given r) (st .length) (st .places) (given-few r e) (given-well-formed r e) h
 
 settled : (r : List ℕ) → record-fault r ≡ 0 → Settled (path-given r)
 settled r e = well-formed-settled (path-given r) (given-well-formed r e)

@@ -9,8 +9,8 @@ use rules::TABLE;
 // "a lent table is too short"
 const SHORT: u32 = rules::TABLE_SHORT as u32;
 
-// The judge on a record handed over: the number and 256 times the place. The counts go to the first eleven places of `counts`.
-// 7 where a table has fewer than 304 places or `counts` fewer than eleven: then nothing is written.
+// The judge on a record handed over: the number and 256 times the place. The counts go to the first DEPTHS places of `counts`.
+// 7 where a table has fewer than TABLE places or `counts` fewer than DEPTHS: then nothing is written.
 pub fn judge_exported(
     given: &[u16],
     authority: &mut [u16],

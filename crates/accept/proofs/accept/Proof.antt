@@ -14,7 +14,6 @@ use Rattle.accept.proofs.Steps.{after-users}
 use Rattle.accept.proofs.Sound.{sound, certificates-passed, SoundPath, sound-path}
 use Rattle.accept.proofs.Lists.{next-place}
 use Rattle.accept.proofs.Taken.{taken, taken-length, all-taken, taken-none, taken-more, users-end, given-parts}
-use Rattle.accept.proofs.Given.{given-most}
 use Rattle.accept.proofs.accept.Statement.{statement}
 use Rattle.accept.proofs.accept.Tie as tie
 
@@ -36,7 +35,7 @@ known : (c : tie.Start Inv-loop μ-loop) → SoundPath (given c)
 known c = sound-path (given c) (c .pre .0)
 
 most : (c : tie.Start Inv-loop μ-loop) → length (packed (path-given (given c))) ≤ length (c .args .rec .now)
-most c = omega (arith, given-most (given c) (c .pre .0), c .pre .1)
+most c = c .pre .1
 
 -- what is left to put
 abbrev Left : tie.Start Inv-loop μ-loop → List ℕ → ℕ → List ℕ → Type 0

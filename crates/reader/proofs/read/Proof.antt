@@ -16,7 +16,7 @@ use Rattle.reader.proofs.read.Tie as tie
 
 -- the sheet that was read
 was : (c : tie.Else1) → SheetWas (c .before .before .before .before .before .before .args .s .now) (replicate most-places 0) (c .before .before .before .read-record .last .1 .0) (c .before .before .before .read-record .result)
-was c = sheet-was _ _ _ _ (search needs) (c .before .before .before .read-record .ensures) (c .if1 .left)
+was c = sheet-was _ _ _ _ (c .before .before .before .read-record .ensures) (c .if1 .left)
 
 slice-aggregate-read-record : tie.Need-slice-aggregate-read-record
 slice-aggregate-read-record c = search needs
@@ -28,7 +28,7 @@ cleared-path-requires : tie.Need-cleared-path-requires
 cleared-path-requires c κs = search needs
 
 returns : tie.Need-returns
-returns c = (λ i. record { number = c .before .before .before .before .read-record .result .number; path = c .cleared-path .ensures i }) ∙ sym (reading-refused _ _ (was-refused (nexts packed 0) _ _ (c .before .before .before .before .read-record .ensures .said) (c .before .if1 .taken)))
+returns c = (λ i. record { number = c .before .before .before .before .read-record .result .number; path = c .cleared-path .ensures i }) ∙ sym (reading-refused _ _ (was-refused (nexts packed 0) _ _ (c .before .before .before .before .read-record .ensures .0 .said) (c .before .if1 .taken)))
 
 slice-aggregate-unpack : tie.Need-slice-aggregate-unpack
 slice-aggregate-unpack c = search needs

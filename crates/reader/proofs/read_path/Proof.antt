@@ -2,13 +2,13 @@
 use native.Mathlib.Omega.{arith}
 use borrow.Author.Needs.{needs}
 use mathlib.Core.List.{[]}
-use mathlib.Core.Path.{_≡_, refl, ap, sym, _∙_}
+use mathlib.Core.Path.{_≡_, refl, ap, sym, _∙_, subst}
 use Prim.Native.Nat.{ℕ, _+_, _-_, _*_, _^_, _≤_, _<_}
 use lib.ListN.{length, length-append}
 use lib.Seq.{length-sets}
 use Rattle.rules.specs.Limits as Limits
-use Rattle.record.specs.Record.{head-places, certificate-head-places, packed-certificate, packed}
-use Rattle.rules.specs.Sheet.{read, read-certificates}
+use Rattle.record.specs.Record.{head-places, certificate-head-places, packed-certificate, packed, places-of}
+use Rattle.rules.specs.Sheet.{refused, read, read-certificates}
 use Rattle.read_certificate.specs.declared.Next.{Next}
 use Rattle.read_certificate.specs.Certificate.{as-next}
 use Rattle.read_certificate.proofs.Reach.{certificate-span, certificate-reach}
@@ -40,7 +40,7 @@ was c = head-was _ _ (start c .pre .0) _ (read-so c .read-head .ensures .said) (
 n-is : (c : tie.After-count-at Inv-loop μ-loop) → c .count-at .result ≡ was (c .before .before) .value .start .n
 n-is c =
     let e = c .before .before in
-    c .count-at .ensures ∙ first-number (start e .args .rec .now) (was e .value) (omega (arith, start e .pre .1)) (read-so e .read-head .ensures .places _ _ (was e .said))
+    c .count-at .ensures ∙ first-number (start e .args .rec .now) (was e .value) (omega (arith, start e .pre .1 .head)) (read-so e .read-head .ensures .places _ _ (was e .said))
 
 -- the head's bounds, in numbers
 bounds : (c : tie.After-count-at Inv-loop μ-loop) → let e = c .before .before in
@@ -50,8 +50,19 @@ bounds c =
     let k = was e .known in
     (omega (arith, n-is c, k .certificates), omega (arith, was e .place, k .count, k .users, length-append (start-numbers (was e .value .start)) (was e .value .users)), omega (arith, k .near, k .users))
 
+-- there is room for the certificates that the head names
+room : (c : tie.After-count-at Inv-loop μ-loop) → places-of (c .count-at .result) ≤ length (start (c .before .before) .args .rec .now)
+room c =
+    let e = c .before .before in
+    let named = was e .known .named ∙ sym (n-is c) in
+    subst (λ n. places-of n ≤ length (start e .args .rec .now)) named (start e .pre .1 .certificates (omega (arith, named, bounds c .0)))
+
+-- a refusal has place 0
+at-no-place : {r : Next} {k m : ℕ} → r ≡ as-next packed-certificate 0 (refused k) → r .place ≤ m
+at-no-place e = omega (arith, ap (λ (r : Next). r .place) e)
+
 read-head-requires : tie.Need-read-head-requires Inv-loop μ-loop
-read-head-requires c κs = (c .before .before .before .pre .0, omega (arith, c .before .before .before .pre .1))
+read-head-requires c κs = (c .before .before .before .pre .0, omega (arith, c .before .before .before .pre .1 .head))
 
 refused-requires : tie.Need-refused-requires Inv-loop μ-loop
 refused-requires c κs = tt
@@ -60,10 +71,10 @@ same-length : tie.Need-same-length Inv-loop μ-loop
 same-length c = search needs
 
 returns : tie.Need-returns Inv-loop μ-loop
-returns c = reads-refused (as-next packed 0) packed (head-refused _ _ (was-refused (nexts numbers-of-head 0) _ _ (c .before .before .before .before .before .read-head .ensures .said) (c .before .if1 .taken))) (c .refused .ensures)
+returns c = (reads-refused (as-next packed 0) packed (head-refused _ _ (was-refused (nexts numbers-of-head 0) _ _ (c .before .before .before .before .before .read-head .ensures .said) (c .before .if1 .taken))) (c .refused .ensures), at-no-place (c .refused .ensures))
 
 count-at-requires : tie.Need-count-at-requires Inv-loop μ-loop
-count-at-requires c κs = omega (arith, start (c .before) .pre .1)
+count-at-requires c κs = omega (arith, start (c .before) .pre .1 .head)
 
 loop-holds : tie.Need-loop-holds Inv-loop μ-loop
 loop-holds c = (none-yet _ _ _ _ _, refl, omega arith)
@@ -73,7 +84,7 @@ read-certificate-requires c κs =
     let a = c .before .before .before in
     let b = bounds a in
     let l = c .before .before .loop .inv in
-    (start (a .before .before) .pre .0, (omega (arith, l .0 .near, b .0, b .2), omega (arith, l .1, l .2, b .0, b .1, start (a .before .before) .pre .1)))
+    (start (a .before .before) .pre .0, (omega (arith, l .0 .near, b .0, b .2), omega (arith, l .1, l .2, b .1, room a)))
 
 refused-requires-2 : tie.Need-refused-requires-2 Inv-loop μ-loop
 refused-requires-2 c κs = tt
@@ -85,12 +96,14 @@ returns-2 : tie.Need-returns-2 Inv-loop μ-loop
 returns-2 c =
     let a = c .before .before .before .before .before .before .before .before .before in
     let e = a .before .before in
-    let l = c .before .before .before .before .before .before .before .before .loop in
-    reads-refused (as-next packed 0) packed
-    (certificates-refused _ _ _ (was e .said) _
-    (ap (λ n. read-certificates (start e .args .s .now) n [] (read-so e .read-head .result .bit)) (sym (n-is a))
-    ∙ certificate-refused _ _ _ _ _ (l .inv .0) _ (c .before .before .before .before .before .before .before .loop-test .taken) (was-refused (nexts packed-certificate (l .place)) _ _ (c .before .before .before .before .before .read-certificate .ensures .0 .said) (c .before .if2 .taken))))
-    (c .refused2 .ensures)
+    let l = c .before .before .before .before .before .before .before .before .loop in (
+      reads-refused (as-next packed 0) packed
+          (certificates-refused _ _ _ (was e .said) _
+          (ap (λ n. read-certificates (start e .args .s .now) n [] (read-so e .read-head .result .bit)) (sym (n-is a))
+          ∙ certificate-refused _ _ _ _ _ (l .inv .0) _ (c .before .before .before .before .before .before .before .loop-test .taken) (was-refused (nexts packed-certificate (l .place)) _ _ (c .before .before .before .before .before .read-certificate .ensures .0 .said) (c .before .if2 .taken))))
+          (c .refused2 .ensures),
+      at-no-place (c .refused2 .ensures),
+    )
 
 add-i : tie.Need-add-i Inv-loop μ-loop
 add-i c = omega arith
@@ -117,11 +130,13 @@ returns-3 c =
     let h = was e in
     let cs = l .inv .0 .so-far in
     let all : a .count-at .result ≡ length cs = omega (arith, l .inv .0 .passed, l .inv .0 .within, c .loop-test .left) in
-    let n = sym (n-is a) ∙ all in
-    reads-value (as-next packed 0) packed
-    (path-is _ _ _ (h .said) cs (l .bit) (ap (λ n. read-certificates (start e .args .s .now) n [] (read-so e .read-head .result .bit)) (sym (n-is a)) ∙ all-read _ _ _ _ _ (l .inv .0) (c .loop-test .left)))
-    (λ i. record { number = 0; bit = l .bit; place = whole-length (h .value) cs n (sym (h .known .count)) (h .place) (l .inv .0 .next) i })
-    (whole _ (h .value) cs n (sym (h .known .count)) (read-so e .read-head .ensures .places _ _ (h .said)) (h .place) (l .inv .0 .places))
+    let n = sym (n-is a) ∙ all in (
+      reads-value (as-next packed 0) packed
+          (path-is _ _ _ (h .said) cs (l .bit) (ap (λ n. read-certificates (start e .args .s .now) n [] (read-so e .read-head .result .bit)) (sym (n-is a)) ∙ all-read _ _ _ _ _ (l .inv .0) (c .loop-test .left)))
+          (λ i. record { number = 0; bit = l .bit; place = whole-length (h .value) cs n (sym (h .known .count)) (h .place) (l .inv .0 .next) i })
+          (whole _ (h .value) cs n (sym (h .known .count)) (read-so e .read-head .ensures .places _ _ (h .said)) (h .place) (l .inv .0 .places)),
+      omega (arith, l .inv .0 .within, l .inv .2, bounds a .1, room a),
+    )
 
 pub read-path-spec : {M : Type 1} → statement M
 read-path-spec =

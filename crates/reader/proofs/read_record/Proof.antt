@@ -18,7 +18,7 @@ start c = c .before .before .before .before .before
 
 -- the path that was read
 was : (c : tie.Else1) → Was (nexts packed 0) path-span (read-path (start (c .before .before .before .before) .args .s .now)) (c .before .before .before .before .read-path .result)
-was c = was-read (nexts packed 0) _ _ (path-reach _) _ (c .before .before .before .before .read-path .ensures .said) (c .if1 .left)
+was c = was-read (nexts packed 0) _ _ (path-reach _) _ (c .before .before .before .before .read-path .ensures .0 .said) (c .if1 .left)
 
 ends : (c : tie.Else1) → was c .at ≡ c .before .before .before .before .read-path .result .bit
 ends c = sym (ap (λ (r : Next). r .bit) (was c .holds))
@@ -35,8 +35,8 @@ same-length c = search needs
 returns : tie.Need-returns
 returns c =
     let r = c .before .before .before .before .read-path in
-    let e = was-refused (nexts packed 0) _ _ (r .ensures .said) (c .if1 .taken) in
-    reads-refused (as-next packed 0) packed (sheet-refused _ _ e) (r .ensures .said ∙ ap (as-next packed 0) e)
+    let e = was-refused (nexts packed 0) _ _ (r .ensures .0 .said) (c .if1 .taken) in
+    (reads-refused (as-next packed 0) packed (sheet-refused _ _ e) (r .ensures .0 .said ∙ ap (as-next packed 0) e), r .ensures .1)
 
 ends-at-requires : tie.Need-ends-at-requires
 ends-at-requires c κs = omega (arith, was c .near, ends c)
@@ -48,7 +48,7 @@ returns-2 : tie.Need-returns-2
 returns-2 c =
     let e = c .before .before in
     let w = was e in
-    reads-value (as-next packed 0) packed (sheet-read _ _ _ (w .said) (sym (c .if2 .taken) ∙ c .before .ends-at .ensures ∙ ap (ends-at (start (e .before .before .before .before) .args .s .now)) (sym (ends e)))) (w .holds) (e .before .before .before .before .read-path .ensures .places _ _ (w .said))
+    (reads-value (as-next packed 0) packed (sheet-read _ _ _ (w .said) (sym (c .if2 .taken) ∙ c .before .ends-at .ensures ∙ ap (ends-at (start (e .before .before .before .before) .args .s .now)) (sym (ends e)))) (w .holds) (e .before .before .before .before .read-path .ensures .0 .places _ _ (w .said)), e .before .before .before .before .read-path .ensures .1)
 
 refused-requires : tie.Need-refused-requires
 refused-requires c κs = search needs
@@ -60,7 +60,7 @@ returns-3 : tie.Need-returns-3
 returns-3 c =
     let e = c .before .before .before in
     let w = was e in
-    reads-refused (as-next packed 0) packed (sheet-goes-on _ _ _ (w .said) (sym (c .before .if2 .left) ∙ c .before .before .ends-at .ensures ∙ ap (ends-at (start (e .before .before .before .before) .args .s .now)) (sym (ends e)))) (c .refused .ensures)
+    (reads-refused (as-next packed 0) packed (sheet-goes-on _ _ _ (w .said) (sym (c .before .if2 .left) ∙ c .before .before .ends-at .ensures ∙ ap (ends-at (start (e .before .before .before .before) .args .s .now)) (sym (ends e)))) (c .refused .ensures), omega (arith, ap (λ (r : Next). r .place) (c .refused .ensures)))
 
 pub read-record-spec : {M : Type 1} → statement M
 read-record-spec =
