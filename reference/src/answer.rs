@@ -3,11 +3,11 @@
 use crate::path::{Path, MAX_CERTIFICATES};
 use crate::{graph, record, sheet};
 
-/// "two tables of 16-bit numbers, authority and user, at least 304 places
-/// each"
-pub const PLACES: usize = 304;
+/// "two tables of 16-bit numbers, authority and user", which "need 899 places
+/// (15 x 31 and 14 x 31)" (document 02, Four)
+pub const PLACES: usize = 899;
 
-/// "The answer also has eleven depth counts (0 to 10)."
+/// The depth counts, from depth 0 on: "the counts have sixteen places".
 pub const DEPTHS: usize = MAX_CERTIFICATES + 1;
 
 /// "8: after certificate i's policies, explicit_policy is 0 and there is no
@@ -92,9 +92,20 @@ pub fn judge_record(record: &[u16], authority: &mut [u16], user: &mut [u16]) -> 
 mod tests {
     use super::*;
     use crate::known::{self, E_SHEET};
+    use crate::path::MAX_LIST;
+
+    /// The places of a table that is longer than needed.
+    const LONGER: usize = 2 * PLACES;
+
+    /// All policies listed, and the mapping issuers of all certificates before
+    /// the last.
+    #[test]
+    fn a_table_has_a_place_for_every_policy_listed_and_every_issuer() {
+        assert_eq!(PLACES, MAX_CERTIFICATES * MAX_LIST + (MAX_CERTIFICATES - 1) * MAX_LIST);
+    }
 
     #[test]
-    fn tables_of_303_and_304_places() {
+    fn tables_one_place_short_and_just_long_enough() {
         let (mut authority, mut user) = ([9; PLACES], [9; PLACES]);
         let answer = judge_sheet(&E_SHEET, &mut authority[1..], &mut user);
         assert_eq!(answer, Answer::bare(7, 0));
@@ -110,11 +121,11 @@ mod tests {
     #[test]
     fn tables_after_each_row() {
         for row in known::rows() {
-            let (mut authority, mut user) = ([9; 400], [9; PLACES]);
+            let (mut authority, mut user) = ([9; LONGER], [9; PLACES]);
             let numbers = record::numbers(&row.path);
             let answer = judge_record(&numbers, &mut authority, &mut user);
             assert_eq!(answer, row.answer, "{}", row.name);
-            let (mut authority, mut user) = ([9; 400], [9; PLACES]);
+            let (mut authority, mut user) = ([9; LONGER], [9; PLACES]);
             let answer = judge_path(&row.path, &mut authority, &mut user);
             assert_eq!(answer, row.answer, "{}", row.name);
             let (set, rest) = authority.split_at(answer.authority.len());

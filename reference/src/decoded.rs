@@ -66,8 +66,9 @@ pub fn record(path: &Path, lengths: Lengths, unused: &mut impl FnMut() -> u16) -
         match path.certificates.get(place) {
             Some(certificate) => put_certificate(&mut numbers, certificate, unused),
             None => {
-                let policies = vec![unused(); usize::from(unused() % 40)];
-                let mappings = vec![(unused(), unused()); usize::from(unused() % 40)];
+                let policies = vec![unused(); usize::from(unused()) % (2 * MAX_LIST)];
+                let pairs = usize::from(unused()) % (2 * MAX_LIST);
+                let mappings = vec![(unused(), unused()); pairs];
                 let other = Certificate { policies, mappings, ..Certificate::default() };
                 put_certificate(&mut numbers, &other, unused);
             }
@@ -105,13 +106,13 @@ pub fn line(path: &Path, lengths: Lengths) -> String {
 #[derive(Clone, Copy, Debug, PartialEq, Eq)]
 pub enum Fault {
     NoCertificate,
-    ElevenCertificates,
-    SeventeenUsers,
+    OneCertificateMore,
+    OneUserMore,
     UserZero,
-    SeventeenPolicies(usize),
+    OnePolicyMore(usize),
     PolicyZero(usize),
     PolicyRepeats(usize),
-    SeventeenPairs(usize),
+    OnePairMore(usize),
     IssuerZero(usize),
     SubjectZero(usize),
 }
@@ -119,10 +120,10 @@ pub enum Fault {
 /// Every fault of a path of two certificates.
 pub fn faults() -> Vec<Fault> {
     use Fault::*;
-    let mut faults = vec![NoCertificate, ElevenCertificates, SeventeenUsers, UserZero];
+    let mut faults = vec![NoCertificate, OneCertificateMore, OneUserMore, UserZero];
     for place in 0..2 {
-        faults.extend([SeventeenPolicies(place), PolicyZero(place), PolicyRepeats(place)]);
-        faults.extend([SeventeenPairs(place), IssuerZero(place), SubjectZero(place)]);
+        faults.extend([OnePolicyMore(place), PolicyZero(place), PolicyRepeats(place)]);
+        faults.extend([OnePairMore(place), IssuerZero(place), SubjectZero(place)]);
     }
     faults
 }
@@ -138,17 +139,18 @@ pub fn with_faults(faults: &[Fault]) -> Path {
     for &fault in faults {
         match fault {
             Fault::NoCertificate => count = 0,
-            Fault::ElevenCertificates => count = MAX_CERTIFICATES + 1,
-            Fault::SeventeenUsers => user.resize(MAX_LIST + 1, 7),
+            Fault::OneCertificateMore => count = MAX_CERTIFICATES + 1,
+            Fault::OneUserMore => user.resize(MAX_LIST + 1, 7),
             Fault::UserZero => user.push(0),
-            Fault::SeventeenPolicies(place) => {
+            Fault::OnePolicyMore(place) => {
                 let policies = &mut certificates[place].policies;
-                policies.extend((0..=MAX_LIST as u16).map(|number| 100 + number));
+                policies.extend((policies.len()..=MAX_LIST).map(|number| 100 + number as u16));
             }
             Fault::PolicyZero(place) => certificates[place].policies.push(0),
             Fault::PolicyRepeats(place) => certificates[place].policies.push(5),
-            Fault::SeventeenPairs(place) => {
-                certificates[place].mappings.resize(MAX_LIST + 1, (7, 8));
+            Fault::OnePairMore(place) => {
+                let mappings = &mut certificates[place].mappings;
+                mappings.extend((mappings.len()..=MAX_LIST).map(|number| (7, 100 + number as u16)));
             }
             Fault::IssuerZero(place) => certificates[place].mappings.push((0, 6)),
             Fault::SubjectZero(place) => certificates[place].mappings.push((5, 0)),
@@ -174,15 +176,28 @@ mod tests {
     }
 
     #[test]
+    fn one_more_is_one_above_the_limit() {
+        use Fault::*;
+        let path =
+            with_faults(&[OneCertificateMore, OneUserMore, OnePolicyMore(0), OnePairMore(1)]);
+        assert_eq!(
+            (path.certificates.len(), path.user.len()),
+            (MAX_CERTIFICATES + 1, MAX_LIST + 1)
+        );
+        assert_eq!(path.certificates[0].policies.len(), MAX_LIST + 1);
+        assert_eq!(path.certificates[1].mappings.len(), MAX_LIST + 1);
+    }
+
+    #[test]
     fn the_earlier_field_is_given() {
         use Fault::*;
         assert_eq!(refused(&[UserZero, NoCertificate]), 3);
-        assert_eq!(refused(&[UserZero, SeventeenUsers]), 3);
-        assert_eq!(refused(&[SeventeenPolicies(0), UserZero]), 4);
-        assert_eq!(refused(&[PolicyRepeats(0), SeventeenPolicies(0)]), 3);
-        assert_eq!(refused(&[SeventeenPairs(0), PolicyRepeats(0)]), 5);
+        assert_eq!(refused(&[UserZero, OneUserMore]), 3);
+        assert_eq!(refused(&[OnePolicyMore(0), UserZero]), 4);
+        assert_eq!(refused(&[PolicyRepeats(0), OnePolicyMore(0)]), 3);
+        assert_eq!(refused(&[OnePairMore(0), PolicyRepeats(0)]), 5);
         assert_eq!(refused(&[IssuerZero(0), PolicyRepeats(0)]), 5);
-        assert_eq!(refused(&[SubjectZero(0), SeventeenPairs(0)]), 3);
+        assert_eq!(refused(&[SubjectZero(0), OnePairMore(0)]), 3);
         assert_eq!(refused(&[PolicyRepeats(1), SubjectZero(0)]), 4);
         assert_eq!(refused(&[PolicyZero(0), PolicyRepeats(0)]), 4);
         assert_eq!(refused(&[PolicyRepeats(0), PolicyZero(0)]), 5);
@@ -190,8 +205,9 @@ mod tests {
 
     #[test]
     fn a_record_has_every_place() {
-        let numbers = 3 + 3 + 1 + 16 + 1 + 10 * (1 + 1 + 16 + 1 + 16 + 16 + 3);
-        for faults in [&[][..], &[Fault::ElevenCertificates], &[Fault::SeventeenPolicies(1)]] {
+        let certificate = 1 + (1 + MAX_LIST) + (1 + 2 * MAX_LIST) + 3;
+        let numbers = 3 + 3 + (1 + MAX_LIST) + 1 + MAX_CERTIFICATES * certificate;
+        for faults in [&[][..], &[Fault::OneCertificateMore], &[Fault::OnePolicyMore(1)]] {
             let record = record(&with_faults(faults), ENOUGH, &mut || 9);
             assert_eq!(record.len(), 2 * numbers);
         }

@@ -59,20 +59,20 @@ fn insert<T>(random: &mut Random, list: &mut Vec<T>, element: T) {
     list.insert(random.below(list.len() + 1), element);
 }
 
-/// Policies up to a seventeenth, or beyond. The seventeenth is one of the
+/// Policies up to one above the limit, or further. That one is one of the
 /// first, or it is new, too long or bad.
 fn too_many_policies(random: &mut Random, draft: &mut Draft) {
     while draft.policies.len() < MAX_LIST {
         draft.policies.push(PolicyInformation::new(&identifier(random)));
     }
-    let seventeenth = odd_identifier(random, &draft.policies[0].identifier);
-    draft.policies.push(PolicyInformation::new(&seventeenth));
+    let one_more = odd_identifier(random, &draft.policies[0].identifier);
+    draft.policies.push(PolicyInformation::new(&one_more));
     for _ in 0..random.below(3) {
         draft.policies.push(PolicyInformation::new(&identifier(random)));
     }
 }
 
-/// Pairs up to a seventeenth, or beyond.
+/// Pairs up to one above the limit, or further.
 fn too_many_pairs(random: &mut Random, draft: &mut Draft, alphabet: &[Identifier]) {
     let known = |random: &mut Random| alphabet[random.below(alphabet.len())].clone();
     while draft.mappings.len() < MAX_LIST {

@@ -80,7 +80,7 @@ fn read(extensions: Extensions, register: &mut [u8; register::BYTES]) -> Result<
     })
 }
 
-/// Up to sixteen policies.
+/// Up to `MAX_LIST` policies.
 #[derive(Default)]
 struct List {
     places: [u16; MAX_LIST],
@@ -172,8 +172,8 @@ fn elements<'v>(value: &mut Reader<'v>) -> Result<Reader<'v>, u8> {
     Ok(elements)
 }
 
-/// certificatePolicies. "At one identifier 13, then 3 beyond the sixteenth
-/// policy or pair, then 15, 14, 5."
+/// certificatePolicies. At one identifier 13, then 3 for a policy or pair above
+/// the limit, then 15, 14, 5.
 fn read_policies<'v>(value: &'v [u8], numbering: &mut Numbering<'_, 'v>) -> Result<List, u8> {
     let mut policies = List::default();
     let mut value = Reader::new(value);
@@ -283,6 +283,7 @@ mod tests {
     use super::*;
     use crate::known_extensions::{P, Q};
     use crate::register::BYTES;
+    use crate::tlv::Tlv;
 
     /// One policy, P.
     const ONE: &[u8] = &[0x30, 7, 0x30, 5, 6, 3, 0x2A, 3, 4];
@@ -351,24 +352,26 @@ mod tests {
 
     #[test]
     fn the_longest_certificate() {
-        let identifier = |kind, place| vec![6, 3, 0x2B, kind, place];
-        let policy = |place| [vec![0x30, 5], identifier(1, place)].concat();
-        let pair = |place| [vec![0x30, 10], identifier(2, place), identifier(3, place)].concat();
-        let policies: Vec<u8> = (0..16).flat_map(policy).collect();
-        let pairs: Vec<u8> = (0..16).flat_map(pair).collect();
+        const LIST: u16 = MAX_LIST as u16;
+        let identifier = |kind, place| Tlv::identifier(&[0x2B, kind, place]);
+        let policy = |place| Tlv::sequence(vec![identifier(1, place)]);
+        let pair = |place| Tlv::sequence(vec![identifier(2, place), identifier(3, place)]);
         let extensions = Extensions {
-            policies: &[&[0x30, 112], &policies[..]].concat(),
-            mappings: &[&[0x30, 0x81, 192], &pairs[..]].concat(),
+            policies: &Tlv::sequence((0..LIST as u8).map(policy).collect()).encode(),
+            mappings: &Tlv::sequence((0..LIST as u8).map(pair).collect()).encode(),
             constraints: &[0x30, 7, 0x80, 1, 9, 0x81, 2, 1, 0],
             inhibit_any: &[2, 1, 0],
             self_issued: 255,
         };
         let (mut bytes, mut places) = (vec![0; BYTES], [7; PLACES]);
         assert_eq!(read_into(extensions, &mut bytes, &mut places), (0, PLACES));
-        assert_eq!(places[..6], [1, 16, 16, 10, 256, 1]);
-        assert!(places[6..22].iter().copied().eq(2..18));
-        assert!(places[22..38].iter().copied().eq((18..50).step_by(2)));
-        assert!(places[38..].iter().copied().eq((19..50).step_by(2)));
-        assert_eq!(bytes[..2], [0, 48]);
+        let (head, lists) = places.split_at(CERTIFICATE_HEAD);
+        assert_eq!(head, [1, LIST, LIST, 10, 256, 1]);
+        let lists: Vec<&[u16]> = lists.chunks(MAX_LIST).collect();
+        let numbers = |first, step| (first..).step_by(step).take(MAX_LIST);
+        assert!(lists[0].iter().copied().eq(numbers(2, 1)));
+        assert!(lists[1].iter().copied().eq(numbers(2 + LIST, 2)));
+        assert!(lists[2].iter().copied().eq(numbers(3 + LIST, 2)));
+        assert_eq!(bytes[..2], (3 * LIST).to_be_bytes());
     }
 }

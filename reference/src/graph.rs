@@ -232,6 +232,7 @@ pub fn judge(path: &Path) -> Answer {
 mod tests {
     use super::*;
     use crate::known;
+    use crate::path::MAX_CERTIFICATES;
     use crate::random::{doubling, full, Random, FULL_KINDS};
 
     #[test]
@@ -244,7 +245,7 @@ mod tests {
     #[test]
     fn full_paths_stand_at_every_depth() {
         let mut random = Random::new(3);
-        for n in 2..=10 {
+        for n in 2..=MAX_CERTIFICATES {
             for kind in FULL_KINDS {
                 let answer = judge(&full(kind, n, &mut random));
                 assert_eq!((answer.number, answer.place), (0, 0), "{kind:?} {n}");
@@ -255,9 +256,9 @@ mod tests {
     }
 
     #[test]
-    fn case_b_at_ten() {
-        let answer = judge(&doubling(10));
-        assert_eq!(answer.counts, [1, 2, 2, 2, 2, 2, 2, 2, 2, 2, 2]);
+    fn case_b_at_its_longest() {
+        let answer = judge(&doubling(MAX_CERTIFICATES));
+        assert_eq!((answer.counts[0], &answer.counts[1..]), (1, &[2; MAX_CERTIFICATES][..]));
         assert_eq!((answer.authority, answer.user), (vec![21, 22], vec![21, 22]));
     }
 

@@ -13,11 +13,33 @@ pub const SMALL_TABLE: u16 = 64;
 /// The slots of its table for any other sheet.
 pub const LARGE_TABLE: u16 = 4_096;
 
+/// The policies that share a slot of the large table.
+const SHARED: usize = 65_536 / LARGE_TABLE as usize;
+
+/// The fewest slots of the large table that hold the policies of a full list.
+const FEWEST_SLOTS: usize = MAX_LIST.div_ceil(SHARED);
+
 /// The slot that is crowded: the first that neither 0 nor anyPolicy has.
 const SLOT: u16 = 2;
 
+/// The fresh names of a certificate of `Growth`, beside anyPolicy: its
+/// policies, its issuers and its subjects.
+const FRESH: usize = MAX_LIST - 1 + 2 * MAX_LIST;
+
+/// The names of chains: for each certificate its policies and as many that
+/// nothing expects, and the subjects of the last.
+const CHAIN_NAMES: usize = (2 * MAX_CERTIFICATES + 1) * MAX_LIST;
+
 /// The names made for a path, as many as the kind that needs most.
-const NAMES: usize = 480;
+const NAMES: usize = max(FRESH * MAX_CERTIFICATES, CHAIN_NAMES);
+
+const fn max(one: usize, other: usize) -> usize {
+    if one > other {
+        one
+    } else {
+        other
+    }
+}
 
 /// The slot of a policy in a table of so many slots. This was told of the
 /// proved judge; no answer of this package depends on it.
@@ -30,6 +52,11 @@ fn sharing(wanted: u16, slots: u16) -> Vec<u16> {
     (2..=u16::MAX).filter(|&policy| slot(policy, slots) == wanted).collect()
 }
 
+/// The policies of so many neighbouring slots of the large table, slot by slot.
+fn crowd(slots: usize) -> Vec<u16> {
+    (SLOT..).take(slots).flat_map(|slot| sharing(slot, LARGE_TABLE)).collect()
+}
+
 /// What the policies of a path are called, in the order in which the path
 /// takes them.
 #[derive(Clone, Copy, Debug, PartialEq, Eq)]
@@ -40,7 +67,8 @@ pub enum Names {
     Descending,
     /// Drawn from all policies.
     Drawn,
-    /// Those of a few neighbouring slots of the large table, slot by slot.
+    /// Those of as few neighbouring slots of the large table as there can be,
+    /// slot by slot.
     Crowded,
 }
 
@@ -55,9 +83,7 @@ impl Names {
                 random.shuffle(&mut all);
                 all
             }
-            Names::Crowded => {
-                (SLOT..SLOT + 30).flat_map(|slot| sharing(slot, LARGE_TABLE)).collect()
-            }
+            Names::Crowded => crowd(NAMES.div_ceil(SHARED)),
         };
         names.truncate(NAMES);
         names
@@ -75,23 +101,25 @@ impl fmt::Display for Names {
     }
 }
 
-/// A kind of path made to harm. All but `SmallSlot` and `ShortSlot` have the longest sheet:
-/// ten certificates with 16 policies, 16 pairs and all skip values each.
+/// A kind of path made to harm. All but `SmallSlot` and `ShortSlot` have the
+/// longest sheet: as many certificates as can be, each with full lists and all
+/// skip values.
 #[derive(Clone, Copy, Debug, PartialEq, Eq)]
 pub enum Harm {
-    /// Chains of the 16 policies that share a slot of the large table.
-    OneSlot,
+    /// Chains of all the policies of neighbouring slots of the large table, as
+    /// few as hold a full list, which is longer than one slot can hold.
+    FewSlots,
     /// Three certificates with four policies each, mapped one to one, whose
     /// policies share a slot of the small table.
     SmallSlot,
     /// One certificate and a user list with 24 policies that share a slot of
     /// the small table: as many as a sheet that still takes it can name.
     ShortSlot,
-    /// anyPolicy and 15 fresh policies in each certificate, and 16 fresh
-    /// issuers mapped to 16 fresh subjects: each depth is as wide as can be.
+    /// anyPolicy and else fresh policies in each certificate, and fresh issuers
+    /// mapped to as many fresh subjects: each depth is as wide as can be.
     Growth(Names),
-    /// Sixteen chains: the policies of each certificate are fresh, and the
-    /// subjects of the certificate before.
+    /// As many chains as a list is long: the policies of each certificate are
+    /// fresh, and the subjects of the certificate before.
     Chains(Names),
     /// Chains of which each certificate after the first ends one, so that
     /// nodes go at every depth above it.
@@ -102,7 +130,7 @@ pub enum Harm {
 
 /// All kinds, with all names.
 pub const HARMS: [Harm; 13] = [
-    Harm::OneSlot,
+    Harm::FewSlots,
     Harm::SmallSlot,
     Harm::ShortSlot,
     Harm::Growth(Names::Ascending),
@@ -121,7 +149,7 @@ impl Harm {
     /// A path of this kind, which requires an explicit policy.
     pub fn path(self, random: &mut Random) -> Path {
         match self {
-            Harm::OneSlot => chains(&sharing(SLOT, LARGE_TABLE).repeat(32), |_| 0),
+            Harm::FewSlots => chains(&few_slots(), |_| 0),
             Harm::SmallSlot => small_chains(&sharing(SLOT, SMALL_TABLE)),
             Harm::ShortSlot => short(&sharing(SLOT, SMALL_TABLE)),
             Harm::Growth(names) => growth(&names.take(random)),
@@ -143,7 +171,7 @@ impl Harm {
 impl fmt::Display for Harm {
     fn fmt(&self, to: &mut fmt::Formatter) -> fmt::Result {
         match self {
-            Harm::OneSlot => to.write_str("chains, one slot"),
+            Harm::FewSlots => write!(to, "chains, {FEWEST_SLOTS} slots"),
             Harm::SmallSlot => to.write_str("3 x 4, one slot"),
             Harm::ShortSlot => to.write_str("1 x 16, one slot"),
             Harm::Growth(names) => write!(to, "growth, {names}"),
@@ -162,9 +190,8 @@ fn explicit(user: Vec<u16>, certificates: Vec<Certificate>) -> Path {
 /// The path of `Growth`. The pairs of the last certificate make its sheet
 /// longer and do nothing else.
 fn growth(names: &[u16]) -> Path {
-    let fresh = MAX_LIST - 1 + 2 * MAX_LIST;
     let certificates: Vec<Certificate> = names
-        .chunks(fresh)
+        .chunks(FRESH)
         .take(MAX_CERTIFICATES)
         .map(|names| {
             let (listed, mapped) = names.split_at(MAX_LIST - 1);
@@ -175,9 +202,15 @@ fn growth(names: &[u16]) -> Path {
     explicit(certificates[0].policies.clone(), certificates)
 }
 
-/// The path of sixteen chains, whose certificate at a place, counted from 0,
-/// has `ended` policies that nothing expects in place of as many subjects of
-/// the certificate before.
+/// The names of `FewSlots`, over and over. Where the slots have more policies
+/// than a list, the next certificate starts with those left out.
+fn few_slots() -> Vec<u16> {
+    crowd(FEWEST_SLOTS).into_iter().cycle().take(CHAIN_NAMES).collect()
+}
+
+/// The path of chains, whose certificate at a place, counted from 0, has
+/// `ended` policies that nothing expects in place of as many subjects of the
+/// certificate before.
 fn chains(names: &[u16], ended: fn(usize) -> usize) -> Path {
     let groups: Vec<&[u16]> = names.chunks(MAX_LIST).collect();
     let (expected, strangers) = groups.split_at(MAX_CERTIFICATES + 1);
@@ -190,7 +223,7 @@ fn chains(names: &[u16], ended: fn(usize) -> usize) -> Path {
     explicit(expected[0].to_vec(), (0..MAX_CERTIFICATES).map(certificate).collect())
 }
 
-/// Chains that end: all sixteen, at the last certificate.
+/// Chains that end: all, at the last certificate.
 fn all_at_the_last(place: usize) -> usize {
     if place + 1 == MAX_CERTIFICATES {
         MAX_LIST
@@ -221,8 +254,29 @@ mod tests {
     use crate::answer::{Answer, DEPTHS};
     use crate::{graph, sheet, tree};
 
+    /// The policies of a list.
+    const LIST: u16 = MAX_LIST as u16;
+
+    /// The policies of chains of which none ends.
+    const CHAINED: usize = (MAX_CERTIFICATES + 1) * MAX_LIST;
+
     fn path(kind: Harm) -> Path {
         kind.path(&mut Random::new(5))
+    }
+
+    /// Counts with one node at depth 0 and so many at each other depth.
+    fn at_each_depth(nodes: u16) -> [u16; DEPTHS] {
+        let mut counts = [nodes; DEPTHS];
+        counts[0] = 1;
+        counts
+    }
+
+    /// The slots of the large table that policies have, which are neighbours.
+    fn slots(policies: &[u16]) -> usize {
+        let slots: Vec<u16> = policies.iter().map(|&policy| slot(policy, LARGE_TABLE)).collect();
+        let count = (SLOT..).take_while(|slot| slots.contains(slot)).count();
+        assert!(slots.iter().all(|&slot| usize::from(slot - SLOT) < count));
+        count
     }
 
     fn answer(kind: Harm) -> Answer {
@@ -284,9 +338,10 @@ mod tests {
 
     #[test]
     fn policies_that_share_a_slot() {
-        let large = path(Harm::OneSlot);
-        assert_eq!(distinct(&large).len(), 16);
-        assert!(policies(&large).iter().all(|&policy| slot(policy, LARGE_TABLE) == SLOT));
+        let large = distinct(&path(Harm::FewSlots));
+        assert!(large.len() >= MAX_LIST && large.len() == SHARED * FEWEST_SLOTS);
+        assert_eq!(slots(&large), FEWEST_SLOTS);
+        const { assert!((FEWEST_SLOTS - 1) * SHARED < MAX_LIST) };
         let small = path(Harm::SmallSlot);
         assert_eq!((small.certificates.len(), distinct(&small).len()), (3, 12));
         assert!(policies(&small).iter().all(|&policy| slot(policy, SMALL_TABLE) == SLOT));
@@ -297,13 +352,10 @@ mod tests {
 
     #[test]
     fn crowded_policies_have_few_slots() {
-        for (kind, names, slots) in
-            [(Harm::Growth(Names::Crowded), 470, 30), (Harm::Chains(Names::Crowded), 176, 11)]
-        {
+        let growth = (Harm::Growth(Names::Crowded), FRESH * MAX_CERTIFICATES);
+        for (kind, names) in [growth, (Harm::Chains(Names::Crowded), CHAINED)] {
             let all = distinct(&path(kind));
-            assert_eq!(all.len(), names, "{kind}");
-            let crowd = SLOT..SLOT + slots;
-            assert!(all.iter().all(|&policy| crowd.contains(&slot(policy, LARGE_TABLE))), "{kind}");
+            assert_eq!((all.len(), slots(&all)), (names, names.div_ceil(SHARED)), "{kind}");
         }
     }
 
@@ -311,34 +363,36 @@ mod tests {
     fn growth_is_as_wide_as_can_be() {
         let mut counts = [0; DEPTHS];
         for (depth, count) in (0..).zip(&mut counts) {
-            *count = 31 * depth + 1;
+            *count = (2 * LIST - 1) * depth + 1;
         }
-        counts[10] = 295;
+        // The last certificate's mappings are ignored.
+        counts[MAX_CERTIFICATES] -= LIST;
+        let widest = usize::from(counts[MAX_CERTIFICATES]);
         for kind in HARMS.into_iter().filter(|kind| matches!(kind, Harm::Growth(_))) {
             let answer = answer(kind);
             assert_eq!(answer.counts, counts, "{kind}");
-            assert_eq!((answer.authority.len(), answer.user.len()), (295, 295), "{kind}");
-            assert_eq!(distinct(&path(kind)).len(), 470, "{kind}");
+            assert_eq!((answer.authority.len(), answer.user.len()), (widest, widest), "{kind}");
+            assert_eq!(distinct(&path(kind)).len(), FRESH * MAX_CERTIFICATES, "{kind}");
         }
     }
 
     #[test]
     fn the_chains_stand() {
-        for kind in HARMS.into_iter().filter(|kind| matches!(kind, Harm::Chains(_) | Harm::OneSlot))
-        {
-            let answer = answer(kind);
-            assert_eq!((answer.counts[0], &answer.counts[1..]), (1, &[16; 10][..]), "{kind}");
+        let stand = |kind: &Harm| matches!(kind, Harm::Chains(_) | Harm::FewSlots);
+        for kind in HARMS.into_iter().filter(stand) {
+            assert_eq!(answer(kind).counts, at_each_depth(LIST), "{kind}");
             for pair in path(kind).certificates.windows(2) {
                 let subjects = pair[0].mappings.iter().map(|&(_, subject)| subject);
                 assert!(subjects.eq(pair[1].policies.iter().copied()), "{kind}");
             }
         }
-        assert_eq!(distinct(&path(Harm::Chains(Names::Drawn))).len(), 176);
+        assert_eq!(distinct(&path(Harm::Chains(Names::Drawn))).len(), CHAINED);
     }
 
     #[test]
-    fn nine_of_the_falling_chains_have_ended() {
-        assert_eq!(answer(Harm::Falling).counts, [1, 7, 7, 7, 7, 7, 7, 7, 7, 7, 7]);
+    fn each_certificate_after_the_first_has_ended_a_falling_chain() {
+        let left = MAX_LIST - (MAX_CERTIFICATES - 1);
+        assert_eq!(answer(Harm::Falling).counts, at_each_depth(left as u16));
     }
 
     #[test]

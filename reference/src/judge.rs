@@ -93,7 +93,7 @@ type Judge<I> =
 type Write<I, O> = unsafe extern "C" fn(*const I, usize, *mut O, usize) -> u32;
 
 /// Judges a sheet. The sets stand in `authority` and `user`, the depth counts
-/// in the first 11 places of `counts`.
+/// in the first `answer::DEPTHS` places of `counts`.
 pub fn judge_sheet(
     sheet: &[u8],
     authority: &mut [u16],

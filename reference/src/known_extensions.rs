@@ -2,6 +2,7 @@
 
 use crate::der::{INTEGER, SEQUENCE};
 use crate::draft::Identifier;
+use crate::path::MAX_LIST;
 use crate::random_extensions::Input;
 use crate::register::{self, ANY_POLICY, MOST};
 use crate::tlv::Tlv;
@@ -269,18 +270,17 @@ fn pair(issuer: &[u8], subject: &[u8]) -> Vec<u8> {
     sequence(&[identifier(issuer), identifier(subject)])
 }
 
-/// Sixteen policies of their own, and one more element.
-fn sixteen_policies_and(more: &[u8]) -> Vec<u8> {
-    let mut elements: Vec<Vec<u8>> = (0..16).map(|last| policy(&[0x2B, last])).collect();
-    elements.push(more.to_vec());
-    sequence(&elements)
+/// As many policies of their own as there may be, and one more element.
+fn full_policies_and(more: &[u8]) -> Vec<u8> {
+    let policies = (0..MAX_LIST as u8).map(|last| policy(&[0x2B, last]));
+    sequence(&policies.chain([more.to_vec()]).collect::<Vec<_>>())
 }
 
-/// Sixteen pairs of known policies, and one more element.
-fn sixteen_pairs_and(more: &[u8]) -> Vec<u8> {
-    let mut elements = vec![pair(P, Q); 16];
-    elements.push(more.to_vec());
-    sequence(&elements)
+/// As many pairs as there may be, each with an issuer of its own, and one more
+/// element.
+fn full_pairs_and(more: &[u8]) -> Vec<u8> {
+    let pairs = (0..MAX_LIST as u8).map(|last| pair(&[0x2B, last], Q));
+    sequence(&pairs.chain([more.to_vec()]).collect::<Vec<_>>())
 }
 
 /// Octets that are the content of an identifier.
@@ -342,22 +342,22 @@ fn list_rows() -> Vec<Row> {
         policies("no policies, the length not minimal", hex("30 81 00"), 13),
         mappings("no pairs", hex("30 00"), 3),
         mappings("no pairs, and octets after", hex("30 00 30"), 3),
-        policies("a seventeenth policy", sixteen_policies_and(&policy(P)), 3),
-        policies("a seventeenth too long", sixteen_policies_and(&policy(&long)), 3),
-        policies("a seventeenth that repeats", sixteen_policies_and(&policy(&[0x2B, 0])), 3),
-        policies("a seventeenth at fault", sixteen_policies_and(&policy(&[0x80, 0])), 13),
-        policies("a seventeenth with no identifier", sixteen_policies_and(&hex("30 00")), 13),
-        policies("a seventeenth that is no SEQUENCE", sixteen_policies_and(&hex("31 00")), 13),
+        policies("one policy more", full_policies_and(&policy(P)), 3),
+        policies("one policy more, too long", full_policies_and(&policy(&long)), 3),
+        policies("one policy more, that repeats", full_policies_and(&policy(&[0x2B, 0])), 3),
+        policies("one policy more, at fault", full_policies_and(&policy(&[0x80, 0])), 13),
+        policies("one policy more, with no identifier", full_policies_and(&hex("30 00")), 13),
+        policies("one policy more, that is no SEQUENCE", full_policies_and(&hex("31 00")), 13),
         policies(
-            "a seventeenth with qualifiers at fault",
-            sixteen_policies_and(&policy_and(P, &hex("05 00"))),
+            "one policy more, with qualifiers at fault",
+            full_policies_and(&policy_and(P, &hex("05 00"))),
             3,
         ),
-        mappings("a seventeenth pair", sixteen_pairs_and(&pair(P, Q)), 3),
-        mappings("a seventeenth issuer too long", sixteen_pairs_and(&pair(&long, Q)), 3),
-        mappings("a seventeenth issuer at fault", sixteen_pairs_and(&pair(&[], Q)), 13),
-        mappings("a seventeenth subject at fault", sixteen_pairs_and(&pair(P, &[])), 3),
-        mappings("a seventeenth pair of one", sixteen_pairs_and(&policy(P)), 3),
+        mappings("one pair more", full_pairs_and(&pair(P, Q)), 3),
+        mappings("one pair more, the issuer too long", full_pairs_and(&pair(&long, Q)), 3),
+        mappings("one pair more, the issuer at fault", full_pairs_and(&pair(&[], Q)), 13),
+        mappings("one pair more, the subject at fault", full_pairs_and(&pair(P, &[])), 3),
+        mappings("one pair more, of one identifier", full_pairs_and(&policy(P)), 3),
     ]
 }
 
@@ -439,7 +439,7 @@ fn full_rows() -> Vec<Row> {
             &sequence(&[&known[..], &[pair(P, R)]].concat()),
             14,
         ),
-        full("a seventeenth that is new", &sixteen_known_and_new(), &[], 3),
+        full("one policy more, that is new", &full_known_and_new(), &[], 3),
         refused(
             "a new policy, then another as a subject, 511 stand",
             [unknown, one_more, vec![], vec![]],
@@ -449,9 +449,9 @@ fn full_rows() -> Vec<Row> {
     ]
 }
 
-/// Sixteen policies of a full register, and one that it lacks.
-fn sixteen_known_and_new() -> Vec<u8> {
-    let known = (0..16).map(|place| policy(&other(place)));
+/// As many policies of a full register as there may be, and one that it lacks.
+fn full_known_and_new() -> Vec<u8> {
+    let known = (0..MAX_LIST).map(|place| policy(&other(place)));
     sequence(&known.chain([policy(R)]).collect::<Vec<_>>())
 }
 
@@ -587,7 +587,7 @@ fn later_rows() -> Vec<Row> {
     let fault = || hex("05 00");
     let long = sequence(&[policy(&long_identifier(33))]);
     let repeated = sequence(&[policy(R), policy(R)]);
-    let too_many = sixteen_pairs_and(&pair(P, Q));
+    let too_many = full_pairs_and(&pair(P, Q));
     let new = sequence(&[policy(R)]);
     let none = || hex("30 00");
     let refused = |name, values, number| refused(name, values, Standing::Two, number);

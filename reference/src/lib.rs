@@ -1,10 +1,11 @@
 //! An independent second judge of certificate policy paths, written from
-//! document 01 and RFC 9618 alone, and a reader of certificates' extensions,
-//! written from document 02, RFC 5280, X.690 and include/judge.h.
+//! documents 01 and 02 and RFC 9618 alone, and a reader of certificates'
+//! extensions, written from document 02, RFC 5280, X.690 and include/judge.h.
 
 pub mod answer;
 #[cfg(feature = "library")]
 pub mod beside;
+pub mod causes;
 pub mod counters;
 pub mod decoded;
 pub mod der;

@@ -3,11 +3,11 @@
 /// "1 is anyPolicy."
 pub const ANY: u16 = 1;
 
-/// "A path has n certificates, 1 to 10."
-pub const MAX_CERTIFICATES: usize = 10;
+/// "n up to 15" (document 02, Four)
+pub const MAX_CERTIFICATES: usize = 15;
 
-/// "0 to 16 policies; 0 to 16 mapping pairs", and a user list of 0 to 16.
-pub const MAX_LIST: usize = 16;
+/// "up to 31 user policies, policies and pairs" (document 02, Four)
+pub const MAX_LIST: usize = 31;
 
 /// "The start inputs are three flags (mapping inhibit, explicit policy,
 /// anyPolicy inhibit) and a user list"; then the certificates, "numbered from
@@ -56,4 +56,17 @@ impl Certificate {
 /// Mapping pairs: each issuer policy with the subject policy at its place.
 pub fn pairs(issuers: &[u16], subjects: &[u16]) -> Vec<(u16, u16)> {
     issuers.iter().copied().zip(subjects.iter().copied()).collect()
+}
+
+#[cfg(test)]
+mod tests {
+    use crate::{answer, extensions, record, sheet};
+
+    /// The figures that follow from the limits, as request Four and
+    /// include/judge.h write them.
+    #[test]
+    fn figures_of_the_limits() {
+        assert_eq!((answer::PLACES, answer::DEPTHS, sheet::LONGEST), (899, 16, 2_929));
+        assert_eq!((record::LONGEST, extensions::PLACES), (1_521, 99));
+    }
 }

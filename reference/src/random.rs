@@ -1,7 +1,7 @@
 //! A small fixed generator of numbers, and the random paths and sheets drawn
 //! from it.
 
-use crate::path::{Certificate, Path, ANY, MAX_CERTIFICATES, MAX_LIST};
+use crate::path::{pairs, Certificate, Path, ANY, MAX_CERTIFICATES, MAX_LIST};
 use crate::sheet::{self, Field};
 
 /// Splitmix64: the same seed gives the same numbers everywhere.
@@ -62,6 +62,9 @@ impl Random {
     }
 }
 
+/// An alphabet of more policies than a list can have.
+const MORE_THAN_A_LIST: usize = MAX_LIST + 9;
+
 /// How often each thing occurs in one random path.
 struct Habits {
     certificates: usize,
@@ -83,7 +86,7 @@ fn dense(random: &mut Random) -> Habits {
         listed: 95,
         any: random.pick(&[0, 50]),
         mapped: 100,
-        most_pairs: 16,
+        most_pairs: random.pick(&[MAX_LIST / 2, MAX_LIST]),
         skips: 0,
     }
 }
@@ -95,7 +98,7 @@ fn habits(random: &mut Random) -> Habits {
         return dense(random);
     }
     let most = if random.chance(70) { 4 } else { MAX_CERTIFICATES };
-    let size = random.pick(&[1, 2, 2, 3, 3, 4, 6, 10, 20]);
+    let size = random.pick(&[1, 2, 2, 3, 3, 4, 6, 10, 20, MORE_THAN_A_LIST]);
     let small = random.chance(70);
     let alphabet = (0..size)
         .map(|place| if small { place as u16 + 2 } else { random.word().max(2) })
@@ -106,7 +109,7 @@ fn habits(random: &mut Random) -> Habits {
         listed: random.pick(&[25, 50, 75, 95]),
         any: random.pick(&[0, 20, 60, 95]),
         mapped: random.pick(&[0, 40, 80, 100]),
-        most_pairs: random.pick(&[1, 2, 4, 6, 16]),
+        most_pairs: random.pick(&[1, 2, 4, 6, MAX_LIST / 2, MAX_LIST]),
         skips: random.pick(&[0, 0, 5, 20, 40]),
     }
 }
@@ -184,14 +187,15 @@ fn certificate(random: &mut Random, habits: &Habits) -> Certificate {
     }
 }
 
-/// A skip value, small more often than not.
+/// A skip value, small more often than not, or around the greatest counter.
 fn skip(random: &mut Random, percent: usize) -> Option<u8> {
     if !random.chance(percent) {
         None
     } else if random.chance(80) {
         Some(random.below(4) as u8)
     } else {
-        Some(random.pick(&[5, 9, 10, 11, 12, 127, 128, 254, 255]))
+        let around = random.between(MAX_CERTIFICATES - 1, MAX_CERTIFICATES + 2) as u8;
+        Some(random.pick(&[5, 9, around, around, 127, 128, 254, 255]))
     }
 }
 
@@ -266,13 +270,15 @@ fn random_after_head(random: &mut Random, path: &Path) -> Vec<u8> {
 }
 
 /// Another value in one of the fields of the given width: 4 bits are edition
-/// and n, 5 bits the counts, 16 bits the policies, of which most become 0.
+/// and n, 5 bits the counts, of which many become 0, and 16 bits the policies,
+/// of which most do.
 pub fn change_field(random: &mut Random, fields: &mut [Field], width: usize) {
     let places: Vec<usize> = (0..fields.len()).filter(|&place| fields[place].1 == width).collect();
     if !places.is_empty() {
         let place = random.pick(&places);
         let other = random.word() & ((1u32 << width) - 1) as u16;
-        fields[place].0 = if width == 16 && random.chance(80) { 0 } else { other };
+        let zeros = if width == 16 { 80 } else { 30 };
+        fields[place].0 = if random.chance(zeros) { 0 } else { other };
     }
 }
 
@@ -286,29 +292,54 @@ fn repeat_policy(random: &mut Random, path: &mut Path) {
     }
 }
 
-/// A path with faults that its sheet can carry: counts up to 31, n up to 15,
-/// policies 0 and repeats.
+/// A path with faults that its sheet can carry, policies 0, repeats and no
+/// certificate, and with lists of any length to the limit.
 pub fn faulty_path(random: &mut Random) -> Path {
     let mut path = path(random);
     for _ in 0..random.between(1, 3) {
-        let count = random.between(0, 31);
+        let count = random.between(0, MAX_LIST);
         let place = random.below(path.certificates.len());
         let certificate = &mut path.certificates[place];
         match random.below(8) {
-            0 => certificate.policies = (0..count as u16).map(|place| place + 2).collect(),
-            1 => certificate.mappings = vec![(2, 3); count],
+            0 => certificate.policies = (2..).take(count).collect(),
+            1 => certificate.mappings = (2..).take(count).map(|issuer| (issuer, 3)).collect(),
             2 => path.user = vec![2; count],
             3 => certificate.policies.insert(0, 0),
             4 => certificate.mappings.insert(0, random.pick(&[(0, 2), (2, 0)])),
             5 => path.user.insert(0, 0),
             6 => repeat_policy(random, &mut path),
-            _ => path.certificates.resize(random.between(1, 15), Certificate::default()),
+            _ => {
+                let n = random.between(1, MAX_CERTIFICATES);
+                path.certificates.resize(n, Certificate::default());
+            }
         }
     }
-    path.user.truncate(31);
+    path.user.truncate(MAX_LIST);
     for certificate in &mut path.certificates {
-        certificate.policies.truncate(31);
-        certificate.mappings.truncate(31);
+        certificate.policies.truncate(MAX_LIST);
+        certificate.mappings.truncate(MAX_LIST);
+    }
+    if random.chance(6) {
+        path.certificates.clear();
+    }
+    path
+}
+
+/// The same, and now and then with n or a list above its limit, which no sheet
+/// can say.
+pub fn overlong_path(random: &mut Random) -> Path {
+    let mut path = faulty_path(random);
+    if path.certificates.is_empty() || random.chance(70) {
+        return path;
+    }
+    let more = random.between(1, MAX_LIST);
+    let place = random.below(path.certificates.len());
+    let certificate = &mut path.certificates[place];
+    match random.below(4) {
+        0 => path.certificates.resize(MAX_CERTIFICATES + more, Certificate::default()),
+        1 => path.user.resize(MAX_LIST + more, 2),
+        2 => certificate.policies.extend((2..).take(MAX_LIST + more)),
+        _ => certificate.mappings.extend((2..).take(MAX_LIST + more).map(|issuer| (issuer, 3))),
     }
     path
 }
@@ -317,30 +348,37 @@ pub fn faulty_path(random: &mut Random) -> Path {
 pub const FULL_KINDS: [Full; 6] =
     [Full::Straight, Full::Pairs, Full::Square, Full::Fan, Full::Any, Full::Drawn];
 
-/// A kind of full sheet: each certificate has 16 policies and 16 pairs.
+/// A kind of full sheet: each certificate has `MAX_LIST` policies and as many
+/// pairs, of which no two are the same.
 #[derive(Clone, Copy, Debug, PartialEq, Eq)]
 pub enum Full {
     /// Each policy is mapped to one policy of the next certificate.
     Straight,
-    /// Eight policies are mapped to two each, the other eight to themselves.
+    /// Half of the policies are mapped to two each, itself and the next; the
+    /// others expect themselves.
     Pairs,
-    /// Four policies are mapped to all four of them; the tree grows fourfold.
+    /// Some policies, as many as the pairs suffice for, are each mapped to all
+    /// of them, so that the tree grows as many times at each depth; each pair
+    /// left over maps another policy to itself.
     Square,
-    /// One policy is mapped to all sixteen of the next certificate, so that
-    /// fifteen fall away at each depth.
+    /// One policy is mapped to all of the next certificate, so that all others
+    /// fall away at each depth.
     Fan,
-    /// anyPolicy, fifteen new policies, and sixteen new issuer policies that
-    /// hang under anyPolicy: the widest levels.
+    /// anyPolicy, as many new policies as there is room for, and new issuer
+    /// policies that hang under anyPolicy: the widest levels.
     Any,
-    /// Policies and pairs drawn from an alphabet of twenty-four.
+    /// Policies and pairs drawn from an alphabet half as long again as a list.
     Drawn,
 }
 
-/// A full path of n certificates, with a user list of 16 and all skip values
+/// The limit of a list, as a number of 16 bits.
+const MOST: u16 = MAX_LIST as u16;
+
+/// A full path of n certificates, with a full user list and all skip values
 /// present, so that the sheet has the greatest length for its n. It is
 /// answered 0 and no depth count up to n is 0.
 pub fn full(kind: Full, n: usize, random: &mut Random) -> Path {
-    let mut user: Vec<u16> = (0..MAX_LIST as u16).map(|place| place + 2).collect();
+    let mut user: Vec<u16> = (2..2 + MOST).collect();
     if kind == Full::Any {
         user[0] = ANY;
     }
@@ -350,31 +388,12 @@ pub fn full(kind: Full, n: usize, random: &mut Random) -> Path {
 
 /// The certificate at a place, counted from 0, of a full path.
 fn full_certificate(kind: Full, place: u16, random: &mut Random) -> Certificate {
-    let own = |policy: u16| 2 + policy + 16 * place;
-    let next = |policy: u16| 2 + policy + 16 * (place + 1);
-    let (mut policies, mut mappings): (Vec<u16>, Vec<(u16, u16)>) = match kind {
-        Full::Straight => (
-            (0..16).map(own).collect(),
-            (0..16).map(|policy| (own(policy), next(15 - policy))).collect(),
-        ),
-        Full::Pairs => (
-            (2..18).collect(),
-            (0..16)
-                .map(|pair| (2 + pair % 8, if pair < 8 { 2 + pair } else { 2 + (pair + 1) % 8 }))
-                .collect(),
-        ),
-        Full::Square => {
-            ((2..18).collect(), (0..16).map(|pair| (2 + pair / 4, 2 + pair % 4)).collect())
-        }
-        Full::Fan => {
-            ((0..16).map(own).collect(), (0..16).map(|policy| (own(5), next(policy))).collect())
-        }
-        Full::Any => {
-            let fresh = |policy: u16| 100 + policy + 64 * place;
-            let mut policies: Vec<u16> = (0..15).map(fresh).collect();
-            policies.push(ANY);
-            (policies, (0..16).map(|policy| (fresh(16 + policy), fresh(32 + policy))).collect())
-        }
+    let (mut policies, mut mappings) = match kind {
+        Full::Straight => straight_lists(place),
+        Full::Pairs => pairs_lists(),
+        Full::Square => square_lists(),
+        Full::Fan => fan_lists(place),
+        Full::Any => any_lists(place),
         Full::Drawn => drawn_lists(random),
     };
     random.shuffle(&mut policies);
@@ -394,16 +413,63 @@ pub fn longest_certificate(policies: Vec<u16>, mappings: Vec<(u16, u16)>) -> Cer
     }
 }
 
-/// Sixteen policies of an alphabet of twenty-four, policy 2 always among them
-/// and mapped to itself, so that the path stands; the other pairs are free.
-fn drawn_lists(random: &mut Random) -> (Vec<u16>, Vec<(u16, u16)>) {
-    let mut others: Vec<u16> = (3..26).collect();
+/// The policies and the pairs of a certificate.
+type Lists = (Vec<u16>, Vec<(u16, u16)>);
+
+/// The policies that the certificate at a place has for itself.
+fn own(place: u16) -> Vec<u16> {
+    (2 + MOST * place..).take(MAX_LIST).collect()
+}
+
+fn straight_lists(place: u16) -> Lists {
+    let subjects: Vec<u16> = own(place + 1).into_iter().rev().collect();
+    (own(place), pairs(&own(place), &subjects))
+}
+
+/// With an odd number of pairs, one of the other policies is mapped to itself.
+fn pairs_lists() -> Lists {
+    let half = MOST / 2;
+    let twice = (0..half)
+        .flat_map(|policy| [(2 + policy, 2 + policy), (2 + policy, 2 + (policy + 1) % half)]);
+    let others = (2 + half..).map(|policy| (policy, policy));
+    (own(0), twice.chain(others).take(MAX_LIST).collect())
+}
+
+fn square_lists() -> Lists {
+    let side = MOST.isqrt();
+    let square =
+        (0..side).flat_map(|issuer| (0..side).map(move |subject| (2 + issuer, 2 + subject)));
+    let others = (2 + side..).map(|policy| (policy, policy));
+    (own(0), square.chain(others).take(MAX_LIST).collect())
+}
+
+fn fan_lists(place: u16) -> Lists {
+    let policies = own(place);
+    let issuer = policies[5];
+    (policies, own(place + 1).into_iter().map(|subject| (issuer, subject)).collect())
+}
+
+fn any_lists(place: u16) -> Lists {
+    let [mut policies, issuers, subjects] = [0, 1, 2].map(|list| own(3 * place + list));
+    policies[0] = ANY;
+    (policies, pairs(&issuers, &subjects))
+}
+
+/// Policy 2 is always among them and mapped to itself, so that the path
+/// stands; the other pairs are free.
+fn drawn_lists(random: &mut Random) -> Lists {
+    let last = 1 + MAX_LIST + MAX_LIST / 2;
+    let mut others: Vec<u16> = (3..=last as u16).collect();
     random.shuffle(&mut others);
-    let mut policies = vec![2];
-    policies.extend(&others[..15]);
+    others.truncate(MAX_LIST - 1);
     let mut mappings = vec![(2, 2)];
-    mappings.extend((0..15).map(|_| (random.between(2, 25) as u16, random.between(2, 25) as u16)));
-    (policies, mappings)
+    while mappings.len() < MAX_LIST {
+        let pair = (random.between(2, last) as u16, random.between(2, last) as u16);
+        if !mappings.contains(&pair) {
+            mappings.push(pair);
+        }
+    }
+    ([vec![2], others].concat(), mappings)
 }
 
 /// Case B at n certificates: each with policies 21 and 22 and the four pairs
@@ -417,4 +483,95 @@ pub fn doubling(n: usize) -> Path {
     let mut certificates = vec![doubled; n];
     certificates[n - 1].mappings.clear();
     Path { user: vec![ANY], certificates, ..Path::default() }
+}
+
+#[cfg(test)]
+mod tests {
+    use super::*;
+
+    /// Whether no two things of a list are the same.
+    fn all_differ<T: Ord + Clone>(list: &[T]) -> bool {
+        let mut sorted = list.to_vec();
+        sorted.sort();
+        sorted.windows(2).all(|two| two[0] != two[1])
+    }
+
+    #[test]
+    fn full_paths_have_full_lists_without_repeats() {
+        let mut random = Random::new(1);
+        for n in 2..=MAX_CERTIFICATES {
+            for kind in FULL_KINDS {
+                let path = full(kind, n, &mut random);
+                assert_eq!(sheet::read(&sheet::write(&path)), Ok(path.clone()), "{kind:?} {n}");
+                assert_eq!((path.certificates.len(), path.user.len()), (n, MAX_LIST));
+                for Certificate { policies, mappings, .. } in &path.certificates {
+                    assert_eq!((policies.len(), mappings.len()), (MAX_LIST, MAX_LIST), "{kind:?}");
+                    assert!(all_differ(policies) && all_differ(mappings), "{kind:?} {n}");
+                    assert!(!mappings.iter().any(|&(one, other)| one == ANY || other == ANY));
+                }
+            }
+        }
+    }
+
+    #[test]
+    fn full_paths_of_most_certificates_have_the_longest_sheet() {
+        for kind in FULL_KINDS {
+            let path = full(kind, MAX_CERTIFICATES, &mut Random::new(2));
+            assert_eq!(sheet::write(&path).len(), sheet::LONGEST, "{kind:?}");
+        }
+    }
+
+    #[test]
+    fn the_square_is_as_large_as_can_be() {
+        let (_, mappings) = square_lists();
+        let side = (1..).take_while(|side| side * side <= MAX_LIST).count();
+        let moved = mappings.iter().filter(|&&(issuer, subject)| issuer != subject).count();
+        assert_eq!(moved, side * side - side);
+    }
+
+    #[test]
+    fn random_paths_reach_every_limit() {
+        let mut random = Random::new(3);
+        let mut reached = [0; 4];
+        for _ in 0..10_000 {
+            let path = path(&mut random);
+            let certificates = path.certificates.iter();
+            let lists = certificates.map(|one| (one.policies.len(), one.mappings.len()));
+            let (policies, pairs): (Vec<usize>, Vec<usize>) = lists.unzip();
+            reached[0] += usize::from(path.certificates.len() == MAX_CERTIFICATES);
+            reached[1] += usize::from(path.user.len() == MAX_LIST);
+            reached[2] += usize::from(policies.contains(&MAX_LIST));
+            reached[3] += usize::from(pairs.contains(&MAX_LIST));
+            assert_eq!(sheet::refusal(&path), Ok(()));
+        }
+        assert!(reached.iter().all(|&times| times >= 20), "{reached:?}");
+    }
+
+    #[test]
+    fn a_faulty_path_has_the_refusal_of_its_sheet() {
+        let mut random = Random::new(4);
+        let mut times = [0; 6];
+        for _ in 0..2_000 {
+            let path = faulty_path(&mut random);
+            let refusal = sheet::refusal(&path);
+            assert_eq!(sheet::read(&sheet::write(&path)), refusal.map(|()| path));
+            times[usize::from(refusal.err().unwrap_or(0))] += 1;
+        }
+        assert!([0, 3, 4, 5].into_iter().all(|number| times[number] >= 50), "{times:?}");
+    }
+
+    #[test]
+    fn no_sheet_can_say_an_overlong_path() {
+        let mut random = Random::new(5);
+        let paths: Vec<Path> = (0..2_000).map(|_| overlong_path(&mut random)).collect();
+        let above = |path: &&Path| {
+            let lists = path.certificates.iter();
+            let most = lists.map(|one| one.policies.len().max(one.mappings.len())).max();
+            path.certificates.len() > MAX_CERTIFICATES
+                || path.user.len().max(most.unwrap_or(0)) > MAX_LIST
+        };
+        let (overlong, others): (Vec<&Path>, Vec<&Path>) = paths.iter().partition(above);
+        assert!(overlong.len() >= 200 && others.len() >= 200);
+        assert!(overlong.iter().all(|path| sheet::refusal(path).is_err()));
+    }
 }

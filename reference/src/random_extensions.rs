@@ -209,12 +209,16 @@ fn neighbour(random: &mut Random, identifier: &[u8]) -> Identifier {
     near
 }
 
+/// The identifiers that are drawn for one certificate at most, more than a list
+/// can have.
+const MORE_THAN_A_LIST: usize = MAX_LIST + 9;
+
 /// Different identifiers for one certificate: entries of the register, others
 /// close to them, new ones, and anyPolicy more often than not.
 pub fn alphabet(random: &mut Random, register: &[u8; BYTES]) -> Vec<Identifier> {
     let entries = register::identifiers(register);
     let known = random.pick(&[0, 50, 90, 100, 100, 100]);
-    let size = random.pick(&[1, 3, 6, 20, 40]);
+    let size = random.pick(&[1, 3, 6, 20, MORE_THAN_A_LIST]);
     let mut alphabet: Vec<Identifier> = (0..size)
         .map(|_| {
             if entries.is_empty() || !random.chance(known) && random.chance(70) {
@@ -353,8 +357,8 @@ fn tag_number(random: &mut Random) -> Vec<u8> {
     number
 }
 
-/// Sixteen policies and sixteen pairs, all of them new, with a register of so
-/// many entries.
+/// As many policies and pairs as there may be, all of them new, with a register
+/// of so many entries.
 pub fn full(random: &mut Random, entries: usize) -> Input {
     let identifiers = enterprise_identifiers(random, entries + 3 * MAX_LIST);
     let (known, new) = identifiers.split_at(entries);
@@ -484,7 +488,7 @@ mod tests {
     fn a_draft_is_read_as_it_says() {
         let mut random = Random::new(6);
         for _ in 0..3_000 {
-            let count = random.pick(&[0, 2, 50, 460]);
+            let count = random.pick(&[0, 2, 50, MOST - MORE_THAN_A_LIST]);
             let mut register = drawn_register(&mut random, count);
             let entries = register::identifiers(&register).into_iter();
             let mut entries: Vec<Identifier> = entries.map(<[u8]>::to_vec).collect();

@@ -1,7 +1,7 @@
 //! Random records, most of them such as no sheet gives: with any numbers as
 //! flags and skip values, with numbers after the record, cut, and at fault.
 
-use crate::path::Path;
+use crate::path::{Path, MAX_CERTIFICATES, MAX_LIST};
 use crate::random::{self, Random};
 use crate::record::{self, CERTIFICATE_HEAD};
 
@@ -11,8 +11,12 @@ const FLAGS: [u16; 6] = [1, 2, 255, 256, 32_768, 65_535];
 /// Skip numbers: absent, small, and around the multiples of 256.
 const SKIPS: [u16; 12] = [0, 1, 2, 3, 255, 256, 257, 258, 512, 513, 32_768, 65_535];
 
+/// The limits of n and of a list.
+const MOST: u16 = MAX_CERTIFICATES as u16;
+const MOST_LISTED: u16 = MAX_LIST as u16;
+
 /// Numbers to put in place of others: at the limits of counts, and faults.
-pub const OTHERS: [u16; 9] = [0, 1, 2, 10, 11, 16, 17, 256, 65_535];
+pub const OTHERS: [u16; 9] = [0, 1, 2, MOST, MOST + 1, MOST_LISTED, MOST_LISTED + 1, 256, 65_535];
 
 /// The record of a path, its flags and skip values written as any numbers, and
 /// with numbers after it now and then.
@@ -45,7 +49,7 @@ pub fn words(length: usize, random: &mut Random) -> Vec<u16> {
 /// So many random numbers that pass for counts or for policies more often
 /// than not.
 pub fn small_numbers(length: usize, random: &mut Random) -> Vec<u16> {
-    let most = random.pick(&[2, 5, 18, 40]);
+    let most = random.pick(&[2, 5, MAX_CERTIFICATES + 2, MAX_LIST + 2, 2 * MAX_LIST]);
     (0..length).map(|_| random.below(most) as u16).collect()
 }
 
@@ -84,7 +88,7 @@ pub fn record(random: &mut Random) -> Vec<u16> {
             record
         }
         _ => {
-            let record = odd(&random::faulty_path(random), random);
+            let record = odd(&random::overlong_path(random), random);
             if random.chance(30) {
                 cut(record, random)
             } else {
@@ -119,7 +123,7 @@ mod tests {
     fn a_faulty_path_has_the_same_refusal_as_a_record() {
         let mut random = Random::new(4);
         for _ in 0..1_000 {
-            let path = random::faulty_path(&mut random);
+            let path = random::overlong_path(&mut random);
             let refusal = path_of(&odd(&path, &mut random)).map(|_| ());
             assert_eq!(refusal, sheet::refusal(&path));
         }

@@ -130,9 +130,9 @@ pub fn path_of(record: &[u16]) -> Result<Path, u8> {
     })
 }
 
-/// "Writes the sheet of a record's path": 7 first if the buffer is below 1,044
-/// bytes, then the record's refusals. Returns the number and the sheet's
-/// length, 0 on refusal.
+/// "Writes the sheet of a record's path": 7 first if the buffer does not hold
+/// the longest sheet, then the record's refusals. Returns the number and the
+/// sheet's length, 0 on refusal.
 pub fn write_into(record: &[u16], buffer: &mut [u8]) -> (u8, usize) {
     sheet::fill(buffer, sheet::LONGEST, || path_of(record).map(|path| sheet::write(&path)))
 }
@@ -150,6 +150,10 @@ mod tests {
     use crate::decoded::{faults, with_faults};
     use crate::known;
     use crate::random::{self, Full, Random};
+
+    /// The limit of a list, and one more.
+    const MOST: u16 = MAX_LIST as u16;
+    const ONE_MORE: u16 = MOST + 1;
 
     /// One certificate's numbers after a head without user policies.
     fn with(certificate: &[u16]) -> Vec<u16> {
@@ -185,7 +189,7 @@ mod tests {
             assert_eq!(path_of(&H_50[..length]), Err(3), "{length}");
         }
         for more in [0, 1, 65_535] {
-            let longer = [&H_50[..], &[more; 600]].concat();
+            let longer = [&H_50[..], &[more; LONGEST]].concat();
             assert_eq!(path_of(&longer), path_of(&H_50));
         }
     }
@@ -226,15 +230,15 @@ mod tests {
 
     #[test]
     fn counts_out_of_their_limits() {
-        for n in [0, 11, 65_535] {
-            assert_eq!(path_of(&[&[n, 0, 0, 0, 0][..], &[0; 600]].concat()), Err(3));
+        for n in [0, MAX_CERTIFICATES as u16 + 1, 65_535] {
+            assert_eq!(path_of(&[&[n, 0, 0, 0, 0][..], &[0; LONGEST]].concat()), Err(3));
         }
-        for count in [17, 32, 65_535] {
-            assert_eq!(path_of(&[&[1, 0, 0, 0, count][..], &[2; 600]].concat()), Err(3));
-            let policies: Vec<u16> = (2..60).collect();
+        for count in [ONE_MORE, 2 * ONE_MORE, 65_535] {
+            assert_eq!(path_of(&[&[1, 0, 0, 0, count][..], &[2; LONGEST]].concat()), Err(3));
+            let policies: Vec<u16> = (2..).take(LONGEST).collect();
             let listed = [&[0, count, 0, 0, 0, 0][..], &policies].concat();
             assert_eq!(path_of(&with(&listed)), Err(3));
-            let mapped = [&[0, 0, count, 0, 0, 0][..], &[2; 80]].concat();
+            let mapped = [&[0, 0, count, 0, 0, 0][..], &[2; LONGEST]].concat();
             assert_eq!(path_of(&with(&mapped)), Err(3));
         }
     }
@@ -257,10 +261,10 @@ mod tests {
         assert_eq!(path_of(&[1, 0, 0, 0, 1, 0]), Err(4));
         // The policies, then a pair count out of its limits, pairs that are
         // missing, and a second certificate that is missing.
-        assert_eq!(path_of(&with(&[0, 1, 17, 0, 0, 0, 0])), Err(4));
-        assert_eq!(path_of(&with(&[0, 2, 17, 0, 0, 0, 5, 5])), Err(5));
-        assert_eq!(path_of(&with(&[0, 2, 16, 0, 0, 0, 5, 5])), Err(5));
-        assert_eq!(path_of(&with(&[0, 2, 16, 0, 0, 0, 5, 6])), Err(3));
+        assert_eq!(path_of(&with(&[0, 1, ONE_MORE, 0, 0, 0, 0])), Err(4));
+        assert_eq!(path_of(&with(&[0, 2, ONE_MORE, 0, 0, 0, 5, 5])), Err(5));
+        assert_eq!(path_of(&with(&[0, 2, MOST, 0, 0, 0, 5, 5])), Err(5));
+        assert_eq!(path_of(&with(&[0, 2, MOST, 0, 0, 0, 5, 6])), Err(3));
         let mut two = with(&[0, 0, 1, 0, 0, 0, 5, 0]);
         two[0] = 2;
         assert_eq!(path_of(&two), Err(4));
@@ -281,7 +285,7 @@ mod tests {
     fn the_longest_record() {
         let path = random::full(Full::Any, MAX_CERTIFICATES, &mut Random::new(1));
         let longest = numbers(&path);
-        assert_eq!((longest.len(), LONGEST), (561, 561));
+        assert_eq!(longest.len(), LONGEST);
         assert_eq!(path_of(&longest), Ok(path.clone()));
 
         let mut record = [7; LONGEST + 1];

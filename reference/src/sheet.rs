@@ -2,15 +2,23 @@
 
 use crate::path::{Certificate, Path, MAX_CERTIFICATES, MAX_LIST};
 
-/// "The longest sheet is 8,352 bits, 1,044 bytes."
-pub const LONGEST: usize = 1_044;
+/// "the longest sheet is 2,929 bytes" (document 02, Four)
+pub const LONGEST: usize = 2_929;
+
+/// The bits of n and of a count: "n, 4 bits", "user count, 5 bits", "a count (5
+/// bits)".
+const N_BITS: usize = 4;
+const COUNT_BITS: usize = 5;
+
+/// "The field widths stay": no field can say more than the limits.
+const _: () = assert!(MAX_CERTIFICATES == (1 << N_BITS) - 1 && MAX_LIST == (1 << COUNT_BITS) - 1);
 
 /// "1: the sheet ends inside or before the next field"
 pub const ENDS_EARLY: u8 = 1;
 /// "2: edition is not 1"
 pub const WRONG_EDITION: u8 = 2;
-/// "3: n is 0 or above 10, user count above 16, or a certificate's present
-/// count 0 or above 16"
+/// 3: on a sheet "only for n 0 or a present count of 0"; for "a path handed over
+/// decoded, or the four values" also above the limits (document 02, Four)
 pub const WRONG_COUNT: u8 = 3;
 /// "4: a policy is 0, in any list"
 pub const NO_POLICY: u8 = 4;
@@ -56,14 +64,14 @@ impl Reader<'_> {
     }
 
     /// "present, 1 bit, and if set a count (5 bits)": 3 if the present count
-    /// is 0 or above 16. An absent list has the count 0.
+    /// is 0. An absent list has the count 0.
     fn present_count(&mut self) -> Result<usize, u8> {
         if !self.flag()? {
             return Ok(0);
         }
-        match usize::from(self.field(5)?) {
-            count @ 1..=MAX_LIST => Ok(count),
-            _ => Err(WRONG_COUNT),
+        match usize::from(self.field(COUNT_BITS)?) {
+            0 => Err(WRONG_COUNT),
+            count => Ok(count),
         }
     }
 
@@ -120,17 +128,14 @@ pub fn read(sheet: &[u8]) -> Result<Path, u8> {
     if reader.field(4)? != 1 {
         return Err(WRONG_EDITION);
     }
-    let n = usize::from(reader.field(4)?);
-    if n == 0 || n > MAX_CERTIFICATES {
+    let n = reader.field(N_BITS)?;
+    if n == 0 {
         return Err(WRONG_COUNT);
     }
     let mapping_inhibit = reader.flag()?;
     let explicit_policy = reader.flag()?;
     let any_policy_inhibit = reader.flag()?;
-    let user_count = usize::from(reader.field(5)?);
-    if user_count > MAX_LIST {
-        return Err(WRONG_COUNT);
-    }
+    let user_count = reader.field(COUNT_BITS)?;
     let user = (0..user_count).map(|_| reader.policy()).collect::<Result<_, _>>()?;
     let certificates = (0..n).map(|_| reader.certificate()).collect::<Result<_, _>>()?;
     reader.finish()?;
@@ -145,11 +150,11 @@ pub type Field = (u16, usize);
 pub fn fields(path: &Path) -> Vec<Field> {
     let mut fields = vec![
         (1, 4),
-        (path.certificates.len() as u16, 4),
+        (path.certificates.len() as u16, N_BITS),
         (u16::from(path.mapping_inhibit), 1),
         (u16::from(path.explicit_policy), 1),
         (u16::from(path.any_policy_inhibit), 1),
-        (path.user.len() as u16, 5),
+        (path.user.len() as u16, COUNT_BITS),
     ];
     fields.extend(path.user.iter().map(|&policy| (policy, 16)));
     for certificate in &path.certificates {
@@ -171,7 +176,7 @@ pub fn fields(path: &Path) -> Vec<Field> {
 fn put_present_count(fields: &mut Vec<Field>, count: usize) {
     fields.push((u16::from(count > 0), 1));
     if count > 0 {
-        fields.push((count as u16, 5));
+        fields.push((count as u16, COUNT_BITS));
     }
 }
 
@@ -208,7 +213,8 @@ pub fn write(path: &Path) -> Vec<u8> {
 }
 
 /// "A path handed over decoded is refused by 3, 4 and 5 in the sheet's field
-/// order, a count of 0 policies or pairs being absence."
+/// order, a count of 0 policies or pairs being absence"; by 3 where n is 0 or a
+/// count is above its limit.
 pub fn refusal(path: &Path) -> Result<(), u8> {
     if path.certificates.is_empty() || path.certificates.len() > MAX_CERTIFICATES {
         return Err(WRONG_COUNT);
@@ -280,8 +286,8 @@ pub fn fill<T: Copy>(
     }
 }
 
-/// The writer: 7 first if the buffer is below 1,044 bytes, then the path's
-/// refusals.
+/// The writer: 7 first if the buffer does not hold the longest sheet, then the
+/// path's refusals.
 pub fn write_into(path: &Path, buffer: &mut [u8]) -> (u8, usize) {
     fill(buffer, LONGEST, || refusal(path).map(|()| write(path)))
 }
@@ -323,8 +329,9 @@ mod tests {
         assert_eq!(read(&[0x21]), Err(2));
         assert_eq!(read(&[0x01]), Err(2));
         assert_eq!(read(&[0x10]), Err(3));
-        assert_eq!(read(&[0x1B]), Err(3));
-        assert_eq!(read(&[0x1A]), Err(1));
+        for n in 1..=MAX_CERTIFICATES as u8 {
+            assert_eq!(read(&[0x10 | n]), Err(1));
+        }
     }
 
     #[test]
@@ -336,14 +343,35 @@ mod tests {
 
     #[test]
     fn counts_are_tested_before_what_they_count() {
-        assert_eq!(read(&[0x11, 17]), Err(3));
-        assert_eq!(read(&[0x11, 16]), Err(1));
+        for count in 1..=MAX_LIST as u8 {
+            assert_eq!(read(&[0x11, count]), Err(1));
+            // Self-issued 0, policies present 1, the count.
+            assert_eq!(read(&[0x11, 0, 0b0100_0000 | count << 1]), Err(1));
+            // Policies absent, mappings present 1, the count.
+            assert_eq!(read(&[0x11, 0, 0b0010_0000 | count]), Err(1));
+        }
+        assert_eq!(read(&[0x11, 0]), Err(1));
         // Self-issued 0, policies present 1, count 0.
         assert_eq!(read(&[0x11, 0, 0b0100_0000]), Err(3));
-        // Self-issued 0, policies present 1, count 17.
-        assert_eq!(read(&[0x11, 0, 0b0110_0010]), Err(3));
         // Policies absent, mappings present 1, count 0.
         assert_eq!(read(&[0x11, 0, 0b0010_0000]), Err(3));
+    }
+
+    #[test]
+    fn every_count_up_to_its_limit_is_read() {
+        for n in 1..=MAX_CERTIFICATES {
+            let certificates = vec![Certificate::default(); n];
+            let path = Path { certificates, ..Path::default() };
+            assert_eq!(read(&write(&path)), Ok(path));
+        }
+        for count in 0..=MAX_LIST as u16 {
+            let policies: Vec<u16> = (2..2 + count).collect();
+            let mappings = policies.iter().map(|&policy| (policy, 2)).collect();
+            let user = policies.clone();
+            let certificate = Certificate { policies, mappings, ..Certificate::default() };
+            let path = Path { user, ..with(certificate) };
+            assert_eq!((read(&write(&path)), refusal(&path)), (Ok(path.clone()), Ok(())));
+        }
     }
 
     #[test]
@@ -397,18 +425,22 @@ mod tests {
     #[test]
     fn counts_of_a_decoded_path() {
         assert_eq!(refusal(&Path::default()), Err(3));
-        let eleven = Path { certificates: vec![Certificate::default(); 11], ..Path::default() };
-        assert_eq!(refusal(&eleven), Err(3));
-        let user = Path { user: vec![0; 17], ..with(Certificate::default()) };
-        assert_eq!(refusal(&user), Err(3));
+        let certificates = vec![Certificate::default(); MAX_CERTIFICATES + 1];
+        assert_eq!(refusal(&Path { certificates, ..Path::default() }), Err(3));
+        let user = vec![0; MAX_LIST + 1];
+        assert_eq!(refusal(&Path { user, ..with(Certificate::default()) }), Err(3));
+        let policies = vec![0; MAX_LIST + 1];
+        assert_eq!(refusal(&with(Certificate { policies, ..Certificate::default() })), Err(3));
+        let mappings = vec![(0, 0); MAX_LIST + 1];
+        assert_eq!(refusal(&with(Certificate { mappings, ..Certificate::default() })), Err(3));
     }
 
     #[test]
     fn the_longest_sheet() {
         let certificate = Certificate {
             self_issued: true,
-            policies: (2..18).collect(),
-            mappings: vec![(65_535, 65_535); 16],
+            policies: (2..).take(MAX_LIST).collect(),
+            mappings: (2..).take(MAX_LIST).map(|issuer| (issuer, 65_535)).collect(),
             require_explicit_policy: Some(255),
             inhibit_policy_mapping: Some(0),
             inhibit_any_policy: Some(128),
@@ -417,8 +449,8 @@ mod tests {
             mapping_inhibit: true,
             explicit_policy: false,
             any_policy_inhibit: true,
-            user: vec![65_535; 16],
-            certificates: vec![certificate; 10],
+            user: vec![65_535; MAX_LIST],
+            certificates: vec![certificate; MAX_CERTIFICATES],
         };
         let mut buffer = [7; LONGEST + 1];
         assert_eq!(write_into(&path, &mut buffer), (0, LONGEST));

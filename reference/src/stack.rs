@@ -27,6 +27,10 @@ const PAGES: usize = 256;
 /// thread and to end it.
 const ROOM: usize = 16_384;
 
+/// The bytes that a call can be measured to overwrite: all but the room above
+/// it, as much for the thread's own, and the last page.
+pub const MEASURABLE: usize = (PAGES - 1) * PAGE - 2 * ROOM;
+
 /// The two patterns, different in every bit.
 const PATTERNS: [u8; 2] = [0xA5, 0x5A];
 

@@ -330,6 +330,7 @@ pub fn judge(path: &Path, cap: usize) -> Option<Answer> {
 mod tests {
     use super::*;
     use crate::known;
+    use crate::path::MAX_CERTIFICATES;
     use crate::random::{doubling, full, Full, Random};
 
     #[test]
@@ -342,7 +343,7 @@ mod tests {
     /// Case B: 1 + 2 + 4 + ... + 2^n nodes.
     #[test]
     fn the_cap_counts_nodes() {
-        for n in 2..=10 {
+        for n in 2..=MAX_CERTIFICATES {
             let nodes = (1 << (n + 1)) - 1;
             assert!(judge(&doubling(n), nodes).is_some());
             assert!(judge(&doubling(n), nodes - 1).is_none());
@@ -350,8 +351,8 @@ mod tests {
     }
 
     #[test]
-    fn a_fourfold_tree_is_over_the_cap() {
-        let path = full(Full::Square, 10, &mut Random::new(4));
+    fn a_tree_that_grows_at_each_depth_is_over_the_cap() {
+        let path = full(Full::Square, MAX_CERTIFICATES, &mut Random::new(4));
         assert!(judge(&path, CAP).is_none());
     }
 }

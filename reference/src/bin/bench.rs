@@ -15,7 +15,7 @@ use reference::everyday::{self, Everyday};
 use reference::extensions;
 use reference::harm::HARMS;
 use reference::judge::{self, Writing, Written};
-use reference::path::{Certificate, Path};
+use reference::path::{Certificate, Path, MAX_CERTIFICATES, MAX_LIST};
 use reference::random::{self, Full, Random, FULL_KINDS};
 use reference::random_extensions::{self, Input};
 use reference::{record, register, sheet, tree};
@@ -266,15 +266,15 @@ fn print_method(seed: u64) {
 /// The table of full sheets.
 fn print_full(random: &mut Random) {
     println!(
-        "\nFull sheets of 10 certificates with 16 policies and 16 pairs each, answered 0 with"
+        "\nFull sheets of {MAX_CERTIFICATES} certificates with {MAX_LIST} policies and {MAX_LIST} pairs each, answered 0 with"
     );
     println!("no depth count 0, {SHEETS} of each kind:\n");
     print_head(&["kind"]);
     for kind in FULL_KINDS {
-        let paths = full_paths(&[kind], 10, random);
+        let paths = full_paths(&[kind], MAX_CERTIFICATES, random);
         print_row(&[format!("{kind:?}")], &measure(&paths, VALID));
     }
-    let paths = full_paths(&FULL_KINDS, 10, random);
+    let paths = full_paths(&FULL_KINDS, MAX_CERTIFICATES, random);
     print_row(&["all kinds".to_string()], &measure(&paths, VALID));
 }
 
@@ -282,7 +282,7 @@ fn print_full(random: &mut Random) {
 fn print_growth(random: &mut Random) {
     println!("\nGrowth with the number of certificates, all kinds together:\n");
     print_head(&["n"]);
-    for n in 2..=10 {
+    for n in 2..=MAX_CERTIFICATES {
         let paths = full_paths(&FULL_KINDS, n, random);
         print_row(&[n.to_string()], &measure(&paths, VALID));
     }
@@ -292,11 +292,12 @@ fn print_growth(random: &mut Random) {
 fn print_doubling() {
     println!("\nCase B's family, where the tree has 2^n leaves:\n");
     print_head(&["n", "leaves", "tree, µs"]);
-    for n in 2..=10 {
+    for n in 2..=MAX_CERTIFICATES {
         let path = random::doubling(n);
         let times = measure(std::slice::from_ref(&path), VALID);
         let grow = || {
-            black_box(tree::judge(black_box(&path), tree::CAP));
+            let answer = tree::judge(black_box(&path), usize::MAX);
+            assert!(black_box(answer).is_some());
         };
         let tree_rounds = rounds(grow);
         let tree = median((0..BATCHES).map(|_| time(tree_rounds, grow)).collect());
@@ -344,12 +345,14 @@ fn small_to_full(random: &mut Random) -> Vec<Named> {
         (name, Everyday { n, policies, mapped }.path())
     });
     let mut paths = everyday.to_vec();
-    paths.push(("case B, n = 10".to_string(), random::doubling(10)));
+    let case_b = random::doubling(MAX_CERTIFICATES);
+    paths.push((format!("case B, n = {MAX_CERTIFICATES}"), case_b));
     paths.push(full_path(Full::Straight, random));
     paths
 }
 
-/// Ten certificates of small fields alone: flags and skip values, and no list.
+/// As many certificates as can be, of small fields alone: flags and skip values,
+/// and no list.
 fn small_fields() -> Named {
     let certificate = Certificate {
         self_issued: true,
@@ -358,13 +361,14 @@ fn small_fields() -> Named {
         inhibit_any_policy: Some(200),
         ..Certificate::default()
     };
-    let path = Path { certificates: vec![certificate; 10], ..Path::default() };
-    ("10 x 0, skip values".to_string(), path)
+    let certificates = vec![certificate; MAX_CERTIFICATES];
+    (format!("{MAX_CERTIFICATES} x 0, skip values"), Path { certificates, ..Path::default() })
 }
 
 /// The longest path of a kind.
 fn full_path(kind: Full, random: &mut Random) -> Named {
-    (format!("10 x 16, full, {kind:?}"), random::full(kind, 10, random))
+    let name = format!("{MAX_CERTIFICATES} x {MAX_LIST}, full, {kind:?}");
+    (name, random::full(kind, MAX_CERTIFICATES, random))
 }
 
 /// The table of reading and writing alone.

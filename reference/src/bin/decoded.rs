@@ -11,7 +11,7 @@ use std::{env, fs, io};
 use reference::answer::PLACES;
 use reference::decoded::{self, Fault, Lengths, BUFFER_BYTES, ENOUGH, TABLE_PLACES};
 use reference::known;
-use reference::path::Path;
+use reference::path::{Path, MAX_CERTIFICATES, MAX_LIST};
 use reference::random::{self, Random, FULL_KINDS};
 use reference::sheet::LONGEST;
 
@@ -27,7 +27,7 @@ impl Files {
     /// One path, with old values and faults in its unused places.
     fn add(&mut self, path: &Path, lengths: Lengths) {
         let random = &mut self.random;
-        let mut unused = || random.pick(&[0, 1, 5, 5, 17, 65_535]);
+        let mut unused = || random.pick(&[0, 1, 5, 5, MAX_LIST as u16 + 1, 65_535]);
         self.records.extend(decoded::record(path, lengths, &mut unused));
         self.lines += &decoded::line(path, lengths);
         self.count += 1;
@@ -55,9 +55,9 @@ impl Files {
         }
         let few = [
             Fault::UserZero,
-            Fault::SeventeenPolicies(0),
+            Fault::OnePolicyMore(0),
             Fault::PolicyRepeats(0),
-            Fault::SeventeenPairs(0),
+            Fault::OnePairMore(0),
             Fault::SubjectZero(0),
             Fault::PolicyRepeats(1),
         ];
@@ -75,7 +75,7 @@ impl Files {
             self.add_lengths(&row.path);
         }
         for kind in FULL_KINDS {
-            let path = random::full(kind, 10, &mut self.random);
+            let path = random::full(kind, MAX_CERTIFICATES, &mut self.random);
             self.add_lengths(&path);
         }
         for first in decoded::faults() {
@@ -91,7 +91,7 @@ impl Files {
     fn random_path(&mut self) {
         let random = &mut self.random;
         let path =
-            if random.chance(40) { random::path(random) } else { random::faulty_path(random) };
+            if random.chance(40) { random::path(random) } else { random::overlong_path(random) };
         let length = |random: &mut Random, exact: usize, most: usize| {
             random.pick(&[0, exact - 1, exact, exact, exact, exact, exact + 1, most])
         };

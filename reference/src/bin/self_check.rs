@@ -9,13 +9,15 @@ use std::env;
 use std::process::ExitCode;
 
 use reference::answer::{judge_path, judge_sheet, Answer, PLACES};
+use reference::causes::Causes;
 use reference::extensions::{self, ANSWERS};
-use reference::path::Path;
+use reference::path::{Path, MAX_CERTIFICATES};
 use reference::random::{self, Random, FULL_KINDS};
 use reference::random_extensions::{self, Input, Registers};
 use reference::{known, register, sheet, tree};
 
-/// The least number of random sheets that each answer must get.
+/// The least number of random sheets that each answer must get, and of those
+/// answered 3 that each cause must have.
 const OFTEN: usize = 500;
 
 /// The least number of random extensions that each answer must get.
@@ -27,6 +29,7 @@ struct Tally {
     passed: usize,
     failed: usize,
     answers: [usize; 11],
+    causes: Causes,
     trees: usize,
     over_cap: usize,
     most_nodes_at_a_depth: u16,
@@ -83,6 +86,10 @@ fn check_sheet(tally: &mut Tally, random: &mut Random, sheet: &[u8]) {
     if answer.is_refusal() {
         let unchanged = authority.iter().chain(&user).all(|&place| place == 9);
         tally.check(unchanged, "a refusal changed a table", sheet);
+    }
+    if answer.number == sheet::WRONG_COUNT {
+        let caused = tally.causes.count(sheet);
+        tally.check(caused, "3 without n 0 or a present count of 0", sheet);
     }
     match sheet::read(sheet) {
         Ok(path) if answer.number != sheet::TOO_SHORT => {
@@ -166,6 +173,49 @@ fn check_extensions(tally: &mut Tally, random: &mut Random, inputs: u64) -> [usi
     times
 }
 
+/// The known paths, full ones and case B's family.
+fn check_made(tally: &mut Tally, random: &mut Random) {
+    for row in known::rows() {
+        let sheet = sheet::write(&row.path);
+        check_round_trip(tally, &row.path);
+        check_path(tally, &row.path, &sheet, &row.answer);
+        let (mut authority, mut user) = ([9; PLACES], [9; PLACES]);
+        let answer = judge_sheet(&sheet, &mut authority, &mut user);
+        tally.check(answer == row.answer, row.name, &sheet);
+    }
+    for n in 2..=MAX_CERTIFICATES {
+        let mut paths = vec![random::doubling(n)];
+        paths.extend(FULL_KINDS.map(|kind| random::full(kind, n, random)));
+        for path in paths {
+            check_round_trip(tally, &path);
+            check_sheet(tally, random, &sheet::write(&path));
+        }
+    }
+}
+
+/// Random sheets, of which each answer and each cause of answer 3 must come up
+/// often, and random paths.
+fn check_random(tally: &mut Tally, random: &mut Random, sheets: u64) {
+    tally.answers = [0; 11];
+    for _ in 0..sheets {
+        let sheet = random::sheet(random);
+        check_sheet(tally, random, &sheet);
+    }
+    for _ in 0..sheets / 4 {
+        let path = random::path(random);
+        check_round_trip(tally, &path);
+        let path = random::faulty_path(random);
+        check_round_trip(tally, &path);
+    }
+    for (number, times) in tally.answers.into_iter().enumerate() {
+        println!("answer {number}: {times}");
+        tally.check(times >= OFTEN, &format!("answer {number} is too rare"), &[]);
+    }
+    let Causes { no_certificate, empty_list } = tally.causes;
+    println!("answer 3 for n 0: {no_certificate}, for a present count of 0: {empty_list}");
+    tally.check(no_certificate.min(empty_list) >= OFTEN, "a cause of 3 is too rare", &[]);
+}
+
 fn main() -> ExitCode {
     let mut arguments = env::args().skip(1).map(|word| word.parse::<u64>().expect("a number"));
     let seed = arguments.next().unwrap_or(1);
@@ -173,39 +223,9 @@ fn main() -> ExitCode {
     let mut random = Random::new(seed);
     let mut tally = Tally::default();
 
-    for row in known::rows() {
-        let sheet = sheet::write(&row.path);
-        check_round_trip(&mut tally, &row.path);
-        check_path(&mut tally, &row.path, &sheet, &row.answer);
-        let (mut authority, mut user) = ([9; PLACES], [9; PLACES]);
-        let answer = judge_sheet(&sheet, &mut authority, &mut user);
-        tally.check(answer == row.answer, row.name, &sheet);
-    }
-    for n in 2..=10 {
-        let mut paths = vec![random::doubling(n)];
-        paths.extend(FULL_KINDS.map(|kind| random::full(kind, n, &mut random)));
-        for path in paths {
-            check_round_trip(&mut tally, &path);
-            check_sheet(&mut tally, &mut random, &sheet::write(&path));
-        }
-    }
-    tally.answers = [0; 11];
-    for _ in 0..sheets {
-        let sheet = random::sheet(&mut random);
-        check_sheet(&mut tally, &mut random, &sheet);
-    }
-    for _ in 0..sheets / 4 {
-        let path = random::path(&mut random);
-        check_round_trip(&mut tally, &path);
-        let path = random::faulty_path(&mut random);
-        check_round_trip(&mut tally, &path);
-    }
-
     println!("seed {seed}, {sheets} random sheets");
-    for (number, times) in tally.answers.into_iter().enumerate() {
-        println!("answer {number}: {times}");
-        tally.check(times >= OFTEN, &format!("answer {number} is too rare"), &[]);
-    }
+    check_made(&mut tally, &mut random);
+    check_random(&mut tally, &mut random, sheets);
     println!("trees compared: {}, over the cap: {}", tally.trees, tally.over_cap);
     println!("widest depth: {}", tally.most_nodes_at_a_depth);
     let times = check_extensions(&mut tally, &mut random, sheets);

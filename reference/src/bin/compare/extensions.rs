@@ -28,7 +28,7 @@ const USER_NOTICE: [u8; 8] = [0x2B, 0x06, 0x01, 0x05, 0x05, 0x07, 0x02, 0x02];
 const REGISTERS: [usize; 5] = [0, BYTES - 1, BYTES, BYTES + 1, 20_000];
 
 /// Lengths of lent certificates.
-const LENT_PLACES: [usize; 5] = [0, PLACES - 1, PLACES, PLACES + 1, 100];
+const LENT_PLACES: [usize; 5] = [0, PLACES - 1, PLACES, PLACES + 1, 2 * PLACES];
 
 /// What the plain reader answers and leaves.
 struct Expected {

@@ -6,6 +6,7 @@
 //! extensions; half as many random records are compared.
 
 mod extensions;
+mod limits;
 mod records;
 mod run;
 
@@ -14,9 +15,10 @@ use std::process::ExitCode;
 
 use reference::answer::{Answer, DEPTHS, PLACES};
 use reference::beside::{JUDGE_RECORD, JUDGE_SHEET};
+use reference::causes::Causes;
 use reference::harm::HARMS;
 use reference::known::{self, E_SHEET};
-use reference::path::Path;
+use reference::path::{Path, MAX_CERTIFICATES};
 use reference::random::{self, Full, Random, FULL_KINDS};
 use reference::{everyday, record, sheet, tree};
 
@@ -25,6 +27,10 @@ use run::{Judgement, Lengths, Run, BUFFERS, COUNTS, ENOUGH, RECORDS, TABLES};
 /// The least number of random sheets, and of records, that each answer must
 /// get.
 pub const OFTEN: usize = 500;
+
+/// The bytes or numbers by which random ones go beyond the longest sheet or
+/// record.
+pub const MORE: usize = 40;
 
 /// The cap on the tree of a damaged sheet, of which there are many.
 const DAMAGE_CAP: usize = 2_000;
@@ -84,10 +90,13 @@ impl Run {
         self.all_lengths(&E_SHEET);
     }
 
-    /// Full sheets of every kind, and case B's family, from n = 2 to 10.
+    /// Full sheets of every kind, and case B's family, from n = 2 to the most.
+    /// Of case B's family the whole tree is grown once.
     fn large(&mut self) {
-        for n in 2..=10 {
-            self.all_lengths(&sheet::write(&random::doubling(n)));
+        for n in 2..=MAX_CERTIFICATES {
+            let sheet = sheet::write(&random::doubling(n));
+            self.all_lengths(&sheet);
+            self.judge(&sheet, ENOUGH, (1 << (n + 1)) - 1);
             for kind in FULL_KINDS {
                 let path = random::full(kind, n, &mut self.random);
                 self.all_lengths(&sheet::write(&path));
@@ -107,15 +116,20 @@ impl Run {
     }
 
     /// Random sheets. Each answer must come up often, and so must a last
-    /// certificate with a mapping that test 9 would not let pass.
+    /// certificate with a mapping that test 9 would not let pass, and each cause
+    /// of answer 3.
     fn random_sheets(&mut self, sheets: u64) {
         let mut answers = [0; 11];
+        let mut causes = Causes::default();
         let mut ignored = 0;
         for _ in 0..sheets {
             let sheet = random::sheet(&mut self.random);
             let lengths = self.draw_lengths();
             let answer = self.judge(&sheet, lengths, tree::CAP);
             answers[usize::from(answer.number)] += 1;
+            if answer.number == sheet::WRONG_COUNT {
+                causes.count(&sheet);
+            }
             let maps = sheet::read(&sheet).is_ok_and(|path| path.last_mapping_names_any());
             ignored += usize::from(maps && matches!(answer.number, 0 | 10));
             let length = self.draw_length(&BUFFERS);
@@ -126,6 +140,8 @@ impl Run {
         for (number, times) in answers.into_iter().enumerate() {
             self.often(number, times, OFTEN, "random sheets");
         }
+        self.seen("answer 3 for n 0", causes.no_certificate, OFTEN, "random sheets");
+        self.seen("answer 3 for a present count of 0", causes.empty_list, OFTEN, "random sheets");
         self.seen("anyPolicy mapped by the last, 0 or 10", ignored, OFTEN, "random sheets");
     }
 
@@ -169,7 +185,7 @@ impl Run {
             .map(|row| row.path)
             .collect();
         paths.push(random::doubling(6));
-        paths.push(random::full(Full::Straight, 10, random));
+        paths.push(random::full(Full::Straight, MAX_CERTIFICATES, random));
         paths.push(random::full(Full::Any, 3, random));
         paths.push(random::full(Full::Drawn, 4, random));
         while paths.len() < 12 {
@@ -181,18 +197,19 @@ impl Run {
         paths
     }
 
-    /// Random bytes of every length to 1,100: bare, after the head of a path,
-    /// and full sheets cut or lengthened.
+    /// Random bytes of every length to some more than the longest sheet: bare,
+    /// after the head of a path, and full sheets cut or lengthened.
     fn random_bytes(&mut self) {
-        for length in 0..=1_100 {
+        for length in 0..=sheet::LONGEST + MORE {
             let mut bytes: Vec<u8> = (0..length).map(|_| self.random.byte()).collect();
             self.once(&bytes, tree::CAP);
             if let Some(first) = bytes.first_mut() {
-                *first = 0x10 + self.random.between(1, 10) as u8;
+                *first = 0x10 + self.random.between(1, MAX_CERTIFICATES) as u8;
                 self.once(&bytes, tree::CAP);
             }
             let kind = self.random.pick(&FULL_KINDS);
-            let mut full = sheet::write(&random::full(kind, 10, &mut self.random));
+            let path = random::full(kind, MAX_CERTIFICATES, &mut self.random);
+            let mut full = sheet::write(&path);
             if length <= full.len() {
                 full.truncate(length);
             } else {
@@ -224,6 +241,7 @@ fn main() -> ExitCode {
     let mut run = Run { random: Random::new(seed), passed: 0, failed: 0, trees: 0, over_cap: 0 };
     println!("seed {seed}, {sheets} random sheets");
     run.known();
+    run.every_count();
     run.large();
     run.random_sheets(sheets);
     run.damage();

@@ -1,18 +1,18 @@
 //! Records that no sheet gives, judged and written.
 
-use reference::path::Path;
+use reference::path::{Path, MAX_CERTIFICATES, MAX_LIST};
 use reference::random::FULL_KINDS;
 use reference::random_record::{self, OTHERS};
 use reference::{decoded, random, record};
 
 use crate::run::{Run, BUFFERS};
-use crate::OFTEN;
+use crate::{MORE, OFTEN};
 
 /// The answers that a record can get.
 const ANSWERS: [usize; 8] = [0, 3, 4, 5, 7, 8, 9, 10];
 
 /// The numbers put at two places at once.
-const PAIRED: [u16; 3] = [0, 5, 17];
+const PAIRED: [u16; 3] = [0, 5, MAX_LIST as u16 + 1];
 
 /// The records compared so far, by the answer expected.
 #[derive(Default)]
@@ -106,10 +106,11 @@ impl Run {
         }
     }
 
-    /// Random numbers of every length to 600: any, small ones, small ones
-    /// after the head of a path, and full records cut or lengthened.
+    /// Random numbers of every length to some more than the longest record: any,
+    /// small ones, small ones after the head of a path, and full records cut or
+    /// lengthened.
     fn numbers_of_every_length(&mut self, tally: &mut Tally) {
-        for length in 0..=600 {
+        for length in 0..=record::LONGEST + MORE {
             let any = random_record::words(length, &mut self.random);
             self.record(&any, tally);
             let small = random_record::small_numbers(length, &mut self.random);
@@ -120,7 +121,8 @@ impl Run {
             headed.truncate(length);
             self.record(&headed, tally);
             let kind = self.random.pick(&FULL_KINDS);
-            let mut full = record::numbers(&random::full(kind, 10, &mut self.random));
+            let path = random::full(kind, MAX_CERTIFICATES, &mut self.random);
+            let mut full = record::numbers(&path);
             full.extend(any);
             full.truncate(length);
             self.record(&full, tally);

@@ -9,22 +9,24 @@ use reference::judge::{self, Judged, Writing, Written};
 use reference::lent::Lent;
 use reference::path::Path;
 use reference::random::Random;
-use reference::{record, sheet, tree};
+use reference::{causes, record, sheet, tree};
 
 /// The failures that are printed whole.
 const SHOWN: usize = 20;
 
 /// Lengths of lent tables.
-pub const TABLES: [usize; 5] = [0, PLACES - 1, PLACES, PLACES + 1, 1_000];
+pub const TABLES: [usize; 5] = [0, PLACES - 1, PLACES, PLACES + 1, 2 * PLACES];
 
 /// Lengths of lent counts.
-pub const COUNTS: [usize; 5] = [0, DEPTHS - 1, DEPTHS, DEPTHS + 1, 40];
+pub const COUNTS: [usize; 5] = [0, DEPTHS - 1, DEPTHS, DEPTHS + 1, 4 * DEPTHS];
 
 /// Lengths of lent buffers.
-pub const BUFFERS: [usize; 5] = [0, sheet::LONGEST - 1, sheet::LONGEST, sheet::LONGEST + 1, 1_500];
+pub const BUFFERS: [usize; 5] =
+    [0, sheet::LONGEST - 1, sheet::LONGEST, sheet::LONGEST + 1, 2 * sheet::LONGEST];
 
 /// Lengths of lent records.
-pub const RECORDS: [usize; 5] = [0, record::LONGEST - 1, record::LONGEST, record::LONGEST + 1, 700];
+pub const RECORDS: [usize; 5] =
+    [0, record::LONGEST - 1, record::LONGEST, record::LONGEST + 1, 2 * record::LONGEST];
 
 /// The lengths of the three tables lent to the judge.
 #[derive(Clone, Copy, Debug)]
@@ -160,8 +162,8 @@ impl Run {
     }
 
     /// One sheet, one set of tables: the proved judge, on the sheet and on its
-    /// record, against the graph judge and, within the cap, the tree judge.
-    /// Returns the expected answer.
+    /// record, against the graph judge and, within the cap, the tree judge. Where
+    /// it is answered 3 it must have a cause. Returns the expected answer.
     pub fn judge(&mut self, sheet: &[u8], lengths: Lengths, cap: usize) -> Answer {
         let expected = expected(&JUDGE_SHEET, sheet, lengths);
         let judgement = self.answered(&JUDGE_SHEET, sheet, lengths, &expected);
@@ -170,6 +172,10 @@ impl Run {
                 self.grow(&path, sheet, &judgement, cap);
             }
             self.answered(&JUDGE_RECORD, &record::numbers(&path), lengths, &expected);
+        }
+        if expected.number == sheet::WRONG_COUNT {
+            let what = || "3 without n 0 or a present count of 0".to_string();
+            self.check(causes::cause(sheet).is_some(), what, sheet);
         }
         expected
     }
