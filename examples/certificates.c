@@ -5,7 +5,7 @@
  *     ./certificates POLICY CERTIFICATE.der ..
  *
  * POLICY is in dotted form, or `any`. The certificates come in path order, from the one that the trust anchor issued to the
- * end certificate, ten at most. The explicit policy flag is set. Only the policy part of path validation is done: signatures,
+ * end certificate, SKANDRULO_CERTIFICATES at most. The explicit policy flag is set. Only the policy part of path validation is done: signatures,
  * names, dates and the rest are to be checked elsewhere. The exit status is 0 whatever the verdict, 1 where a certificate is
  * refused, and 2 for a wrong call or a file that cannot be read.
  *
@@ -28,7 +28,7 @@
 
 enum { REFUSED = 1, WRONG_CALL = 2 };
 enum { ANY_POLICY = 1, FIRST_ENTRY = 2, FIRST_VERDICT = 8 };
-enum { MOST_CERTIFICATES = 10, MOST_BYTES = 65536, LONGEST_IDENTIFIER = 32 };
+enum { MOST_CERTIFICATES = SKANDRULO_CERTIFICATES, MOST_BYTES = 65536, LONGEST_IDENTIFIER = 32 };
 
 /* What the functions return: a number, and 256 times a place or a length. */
 static unsigned number(uint32_t returned) { return (unsigned)(returned % 256); }
@@ -305,7 +305,7 @@ static void print_policy(const uint8_t *reg, const struct identifier *user, uint
         print_dotted(content_of(user));
 }
 
-/* A record, of which the first `length` places are used. Beside one user policy it has room for ten certificates. */
+/* A record, of which the first `length` places are used. Beside one user policy it has room for as many certificates as a path may have. */
 struct record {
     uint16_t places[SKANDRULO_RECORD];
     size_t length;
@@ -406,7 +406,7 @@ int main(int argc, char **argv) {
     static uint8_t reg[SKANDRULO_REGISTER];
     struct identifier user = any_policy;
 
-    if (argc < 3 || argc > 2 + MOST_CERTIFICATES) stop(WRONG_CALL, "POLICY", "and 1 to 10 certificates are needed");
+    if (argc < 3 || argc > 2 + MOST_CERTIFICATES) stop(WRONG_CALL, "POLICY", "and 1 to 15 certificates are needed");
     if (strcmp(argv[1], "any") != 0 && !encode(argv[1], &user))
         stop(WRONG_CALL, argv[1], "is no policy identifier of at most 32 octets");
     start(&record);

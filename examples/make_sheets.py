@@ -1,13 +1,16 @@
 #!/usr/bin/env python3
-"""Writes the sheets of document 01's known paths, one that is answered 9, and the longest sheet with the answers expected, and the sheets of a test program.
+"""Writes the sheets of document 01's known paths, one that is answered 9, those of request Four's limits and the longest sheet with the answers expected, and the sheets of a test program.
 
-    examples/make_sheets.py     writes examples/*.sheet, examples/*.answer and the data of crates/sheet_check
+    examples/make_sheets.py     writes examples/*.sheet, examples/*.answer, and the data and the lines expected of crates/sheet_check
 
 All of these are stored in the repository; this says what is in them. It packs bits by itself and uses no other code of the project.
 """
 import pathlib
 
 ROOT = pathlib.Path(__file__).resolve().parent.parent
+
+# Document 02, request Four: the most certificates, and the most of a list.
+CERTIFICATES, LISTED, LONGEST = 15, 31, 2929
 
 
 def certificate(policies=(), pairs=(), self_issued=False, skips=(None, None, None)):
@@ -37,6 +40,12 @@ def packed(fields):
     return bytes(int(bits[k:k + 8], 2) for k in range(0, len(bits), 8))
 
 
+def straight(count):
+    """A certificate with so many policies from 100 upward, each mapped to itself."""
+    policies = range(100, 100 + count)
+    return certificate(policies, [(policy, policy) for policy in policies])
+
+
 FOUR = [(21, 21), (21, 22), (22, 21), (22, 22)]
 H = [certificate([1], [(50, 51)]), certificate([51])]
 
@@ -44,6 +53,7 @@ KNOWN = {
     "A": sheet([certificate([11, 12, 15], [(11, 13), (11, 14)]), certificate([12, 13, 16])]),
     "B": sheet([certificate([21, 22], FOUR), certificate([21, 22], FOUR), certificate([21, 22])]),
     "B10": sheet([certificate([21, 22], FOUR)] * 9 + [certificate([21, 22])]),
+    "B15": sheet([certificate([21, 22], FOUR)] * 14 + [certificate([21, 22])]),
     "C": sheet([certificate()]),
     "D": sheet([certificate()], explicit=True),
     "E": sheet([certificate([1])], users=(30, 31)),
@@ -60,14 +70,17 @@ KNOWN = {
     "L-0": sheet([certificate(skips=(0, None, None))]),
     "L-1": sheet([certificate(skips=(1, None, None))]),
     "M": sheet([certificate([80], skips=(1, None, None)), certificate()]),
+    "eleven-certificates": sheet([certificate([5])] * 11),
+    "seventeen-listed": sheet([straight(17)] * 2, users=range(100, 117)),
 }
 
 
-# What document 01 says of each, and of K document 02's request Three: verdict, place, counts from depth 0, authority set, user set.
+# What document 01 says of each, and of K document 02's request Three; the last two are within request Four's limits alone: verdict, place, counts from depth 0, authority set, user set.
 ANSWERS = {
     "A": (0, 0, [1, 2, 2], [11, 12], [11, 12]),
     "B": (0, 0, [1, 2, 2, 2], [21, 22], [21, 22]),
     "B10": (0, 0, [1] + [2] * 10, [21, 22], [21, 22]),
+    "B15": (0, 0, [1] + [2] * 15, [21, 22], [21, 22]),
     "C": (0, 0, [], [], []),
     "D": (8, 1, [], [], []),
     "E": (0, 0, [1, 1], [1], [30, 31]),
@@ -84,73 +97,101 @@ ANSWERS = {
     "L-0": (10, 1, [], [], []),
     "L-1": (0, 0, [], [], []),
     "M": (10, 2, [], [], []),
+    "eleven-certificates": (0, 0, [1] + [1] * 11, [5], [5]),
+    "seventeen-listed": (0, 0, [1, 17, 17], list(range(100, 117)), list(range(100, 117))),
 }
 
 
 def answer(verdict, place, counts, authority, user):
     """The lines that the program writes."""
-    rows = [["verdict", verdict, "place", place], ["counts"] + (counts + [0] * 11)[:11], ["authority"] + authority, ["user"] + user]
+    rows = [["verdict", verdict, "place", place], ["counts"] + counts + [0] * (CERTIFICATES + 1 - len(counts)), ["authority"] + authority, ["user"] + user]
     return "".join(" ".join(map(str, row)) + "\n" for row in rows)
 
 
 def full(last_policy=None, last_subject=None):
-    """A sheet of the greatest length: ten certificates with sixteen policies, sixteen pairs and three skip values, and sixteen users."""
+    """A sheet of the greatest length: full lists everywhere, and three skip values in each certificate."""
     certificates = []
-    for i in range(10):
-        policies = [100 + j for j in range(16)]
-        pairs = [[100 + j, 100 + (j + i) % 16] for j in range(16)]
-        if i == 9 and last_policy is not None:
-            policies[15] = last_policy
-        if i == 9 and last_subject is not None:
-            pairs[15][1] = last_subject
+    for i in range(CERTIFICATES):
+        policies = [100 + j for j in range(LISTED)]
+        pairs = [[100 + j, 100 + (j + i) % LISTED] for j in range(LISTED)]
+        if i == CERTIFICATES - 1 and last_policy is not None:
+            policies[-1] = last_policy
+        if i == CERTIFICATES - 1 and last_subject is not None:
+            pairs[-1][1] = last_subject
         certificates.append(certificate(policies, pairs, skips=(255, 255, 255)))
-    return sheet(certificates, users=tuple(range(100, 116)))
+    return sheet(certificates, users=range(100, 100 + LISTED))
 
 
-def test_sheets():
-    """The sheets of the reader's and writer's test program, in its order."""
-    e, longest = packed(KNOWN["E"]), packed(full())
-    assert e == bytes.fromhex("1102001E001F42000200") and len(longest) == 1044
-    tail = [(1, 0), (1, 0), (1, 1), (5, 17)]
+def counted(count):
+    """Sheets with so many user policies, policies and pairs."""
+    policies = range(100, 100 + count)
+    pairs = [(policy, policy + 1) for policy in policies]
     return {
-        "case_e": e,
-        "longest": longest,
-        "every_known_skip": packed(sheet([certificate([5], [(5, 6)], True, (0, None, 255)), certificate([], [(7, 8)], False, (None, 9, None))], users=())),
-        "ends_empty": b"",
-        "ends_in_last_field": longest[:-1],
-        "edition_2": b"\x21",
-        "edition_0_and_more": b"\x01" + e[1:],
-        "n_0": b"\x10",
-        "n_11": b"\x1b" + e[1:],
-        "user_count_17": packed([(4, 1), (4, 1), (3, 0), (5, 17)]),
-        "policy_count_0": packed(sheet([[(1, 0), (1, 1), (5, 0)]])),
-        "policy_count_17": packed(sheet([[(1, 0), (1, 1), (5, 17)]])),
-        "last_mapping_count_17": packed(sheet([certificate([5])] * 9 + [tail])),
-        "first_user_0": packed(sheet([certificate()], users=(0,))),
-        "last_subject_0": packed(full(last_subject=0)),
-        "second_policy_repeats": packed(sheet([certificate([5, 5, 0])])),
-        "last_policy_repeats": packed(full(last_policy=100)),
-        "zero_before_repeat": packed(sheet([certificate([5, 0, 5])])),
-        "fill_bit": e[:-1] + b"\x01",
-        "fill_bit_first": e[:-1] + b"\x10",
-        "byte_too_many": e + b"\x00",
-        "byte_too_many_longest": longest + b"\x00",
+        f"user_count_{count}": (packed(sheet([certificate()], users=policies)), 0),
+        f"policy_count_{count}": (packed(sheet([certificate(policies)])), 0),
+        f"mapping_count_{count}": (packed(sheet([certificate((), pairs)])), 0),
     }
 
 
+def test_sheets():
+    """The sheets of the reader's and writer's test program, in its order, each with the number expected."""
+    e, longest = packed(KNOWN["E"]), packed(full())
+    assert e == bytes.fromhex("1102001E001F42000200") and len(longest) == LONGEST
+    skips = [certificate([5], [(5, 6)], True, (0, None, 255)), certificate([], [(7, 8)], False, (None, 9, None))]
+    last = [certificate([5])] * (CERTIFICATES - 1)
+    return {
+        "case_e": (e, 0),
+        "longest": (longest, 0),
+        "every_known_skip": (packed(sheet(skips, users=())), 0),
+        "ends_empty": (b"", 1),
+        "ends_in_last_field": (longest[:-1], 1),
+        "edition_2": (b"\x21", 2),
+        "edition_0_and_more": (b"\x01" + e[1:], 2),
+        "n_0": (b"\x10", 3),
+        "n_11": (packed(sheet([certificate([5])] * 11)), 0),
+        "n_15": (packed(sheet([certificate([5])] * 15)), 0),
+        "n_15_alone": (b"\x1f", 1),
+        **counted(17),
+        **counted(31),
+        "user_count_31_alone": (b"\x11\x1f", 1),
+        "policy_count_0": (packed(sheet([[(1, 0), (1, 1), (5, 0)]])), 3),
+        "policy_count_31_alone": (packed(sheet([[(1, 0), (1, 1), (5, 31)]])), 1),
+        "last_mapping_count_0": (packed(sheet(last + [[(1, 0), (1, 0), (1, 1), (5, 0)]])), 3),
+        "last_mapping_count_31_alone": (packed(sheet(last + [[(1, 0), (1, 0), (1, 1), (5, 31)]])), 1),
+        "first_user_0": (packed(sheet([certificate()], users=(0,))), 4),
+        "last_subject_0": (packed(full(last_subject=0)), 4),
+        "second_policy_repeats": (packed(sheet([certificate([5, 5, 0])])), 5),
+        "last_policy_repeats": (packed(full(last_policy=100)), 5),
+        "zero_before_repeat": (packed(sheet([certificate([5, 0, 5])])), 4),
+        "fill_bit": (e[:-1] + b"\x01", 6),
+        "fill_bit_first": (e[:-1] + b"\x10", 6),
+        "byte_too_many": (e + b"\x00", 6),
+        "byte_too_many_longest": (longest + b"\x00", 6),
+    }
+
+
+def line(name, content, number):
+    """The line that the test program writes: a sheet that is read is written again, and not into a buffer that is too short."""
+    again = f", write 0 length {len(content)} same, short buffer 7" if number == 0 else ""
+    return f"{name}: read {number}{again}\n"
+
+
 def store(crate, sheets):
-    """The sheets as a program's data, and their names as its arguments."""
+    """The sheets as a program's data, their names as its arguments, and the lines expected."""
     data = ROOT / "crates" / crate / "data"
     data.mkdir(parents=True, exist_ok=True)
-    for name, content in sheets.items():
+    for old in data.iterdir():
+        old.unlink()
+    for name, (content, _) in sheets.items():
         (data / name).write_bytes(content)
     (data.parent / "args").write_text("".join(f"{name}\n" for name in sheets))
+    (data.parent / "stdout").write_text("".join(line(name, *expected) for name, expected in sheets.items()))
 
 
 def main():
-    sixteen = list(range(100, 116))
+    listed = list(range(100, 100 + LISTED))
     known = KNOWN | {"longest": full()}
-    answers = ANSWERS | {"longest": (0, 0, [1] + [16] * 10, sixteen, sixteen)}
+    answers = ANSWERS | {"longest": (0, 0, [1] + [LISTED] * CERTIFICATES, listed, listed)}
     for name, fields in known.items():
         (ROOT / "examples" / f"{name}.sheet").write_bytes(packed(fields))
         (ROOT / "examples" / f"{name}.answer").write_text(answer(*answers[name]))

@@ -10,14 +10,18 @@
 #include <stddef.h>
 #include <stdint.h>
 
+/* The most certificates of a path, and the most user policies, policies and mapping pairs of a list. */
+#define SKANDRULO_CERTIFICATES 15
+#define SKANDRULO_LISTED 31
+
 /* The places that a lent table needs, the depth counts, the bytes that the writer's buffer needs, the places of the longest record and
  * of the longest certificate in one, and the bytes of a register.
  */
-#define SKANDRULO_TABLE 304
-#define SKANDRULO_DEPTHS 11
-#define SKANDRULO_SHEET_BYTES 1044
-#define SKANDRULO_RECORD 561
-#define SKANDRULO_CERTIFICATE 54
+#define SKANDRULO_TABLE 899
+#define SKANDRULO_DEPTHS 16
+#define SKANDRULO_SHEET_BYTES 2929
+#define SKANDRULO_RECORD 1521
+#define SKANDRULO_CERTIFICATE 99
 #define SKANDRULO_REGISTER 17922
 
 /* Judges a sheet. Returns the number of document 01's table plus 256 times the place.
@@ -40,16 +44,16 @@ uint32_t skandrulo_rewrite_sheet(const uint8_t *sheet, size_t sheet_len, uint8_t
 
 /* A record: a path as numbers one after the other, with no unused places between them.
  *
- *     n, the certificates                  1 to 10
+ *     n, the certificates                  1 to SKANDRULO_CERTIFICATES
  *     mapping inhibit                      0 or 1
  *     explicit policy                      0 or 1
  *     anyPolicy inhibit                    0 or 1
- *     the number of user policies          0 to 16
+ *     the number of user policies          0 to SKANDRULO_LISTED
  *     the user policies
  *     for each certificate, from the one that the trust anchor issued:
  *         self-issued                      0 or 1
- *         the number of its policies       0 to 16, 0 being absence
- *         the number of its mapping pairs  0 to 16, 0 being absence
+ *         the number of its policies       0 to SKANDRULO_LISTED, 0 being absence
+ *         the number of its mapping pairs  0 to SKANDRULO_LISTED, 0 being absence
  *         requireExplicitPolicy            0 if absent, else the value and 1
  *         inhibitPolicyMapping             0 if absent, else the value and 1
  *         inhibitAnyPolicy                 0 if absent, else the value and 1
@@ -128,7 +132,7 @@ enum {
  * 7, where `reg` has fewer than SKANDRULO_REGISTER bytes or `certificate` fewer than SKANDRULO_CERTIFICATE places, comes first: nothing is written.
  * 20, where the register is not as said above, comes next. Then the values are read in the order named, each from its first octet to its last, and the
  * first fault is given: 13 for anything but DER of the extension's type, a negative skip value included; 3 for an empty list of policies or pairs,
- * and beyond the sixteenth; 15 for an identifier of more than 32 octets; 14 where a new identifier is needed and 512 stand; 5 where a policy repeats.
+ * and beyond SKANDRULO_LISTED of them; 15 for an identifier of more than 32 octets; 14 where a new identifier is needed and 512 stand; 5 where a policy repeats.
  * Of one identifier 13 comes first, then 3, 15, 14, 5. Qualifiers are checked and dropped. A skip value above 255 is 255.
  *
  * After 3, 5, 13, 14, 15 and 20 the register is as it was and the first SKANDRULO_CERTIFICATE places of `certificate` are 0. After 0 they hold the
