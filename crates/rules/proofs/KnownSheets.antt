@@ -40,7 +40,7 @@ unfolding row path plain certificate _to_ each from
 pairs-row m = row (0x11 ∷ 0x00 ∷ (0x20 + m) ∷ each (λ p. 0x00 ∷ p ∷ 0x00 ∷ suc p ∷ []) (from 2 m) ++ 0x00 ∷ []) (read (path false false false [] (plain [] (map (λ p. p to suc p) (from 2 m)) ∷ [])) (27 + 32 * m))
 
 unfoldable pub rows : List Row
-unfolding row certificates-row users-row policies-row pairs-row path plain certificate _to_ case-E
+unfolding row certificates-row users-row path plain certificate _to_ case-E
 rows =
     -- case E's sheet
     row (0x11 ∷ 0x02 ∷ 0x00 ∷ 0x1E ∷ 0x00 ∷ 0x1F ∷ 0x42 ∷ 0x00 ∷ 0x02 ∷ 0x00 ∷ []) (read case-E 75)
@@ -61,10 +61,8 @@ rows =
     -- eleven certificates, and as many as a path may have
     ∷ certificates-row 11
     ∷ certificates-row certificates
-    -- seventeen user policies, policies and pairs; sheet/proofs/Known has full lists
+    -- seventeen user policies; sheet/proofs/Known has seventeen policies and pairs, and full lists
     ∷ users-row 17
-    ∷ policies-row 17
-    ∷ pairs-row 17
     -- ends: empty input
     ∷ row [] (refused 1)
     -- ends: case E cut to 1 bytes

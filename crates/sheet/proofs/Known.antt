@@ -1,4 +1,4 @@
--- The known paths through the sheet's round trip, and sheets with full lists, by computation.
+-- The known paths through the sheet's round trip, and sheets with long lists, by computation.
 use mathlib.Core.List.{List, [], _∷_, map}
 use mathlib.Core.Path.{_≡_, refl}
 use Rattle.rules.specs.Limits.{listed}
@@ -20,9 +20,9 @@ known = refl
 
 unfoldable full-rows : List sheets.Row
 unfolding users-row policies-row pairs-row
-full-rows = users-row listed ∷ policies-row listed ∷ pairs-row listed ∷ []
+full-rows = policies-row 17 ∷ pairs-row 17 ∷ users-row listed ∷ policies-row listed ∷ pairs-row listed ∷ []
 
--- Every sheet with a full list is read as expected, and written again.
+-- Every sheet with seventeen of a list, or a full one, is read as expected, and written again.
 known-full : map (λ r. record { reading = read-sheet (r .bytes); bytes = written-again r }) full-rows ≡ map {B = sheets.Said} (λ r. record { reading = r .reading; bytes = r .bytes }) full-rows
 unfolding read-sheet written-again full-rows
 known-full = refl
