@@ -56,7 +56,7 @@ widths-skip Absent = omega (arith, widths-flag false [], widths-none)
 widths-skip (Certificates v) = omega (arith, widths-flag true (8 # v ∷ []), widths-field 8 v [], widths-none)
 
 -- the bits of a certificate at most
-abbrev longest : ℕ
+abbrev pub longest : ℕ
 longest = 1 + 1 + 5 + 16 * Limits.listed + 1 + 5 + 32 * Limits.listed + 3 * (1 + 8)
 
 widths-certificate : (c : Certificate) → WritableCertificate c → widths (certificate-fields c) ≤ longest
