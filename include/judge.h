@@ -1,4 +1,5 @@
-/* The policy judge for C. Link target/staticlib/libjudge.a, which `rt staticlib judge` writes (x86-64 Linux).
+/* The policy judge for C. Link target/staticlib/libjudge.a, which `rt staticlib judge` writes (x86-64 Linux). The functions for sheets that arrive
+ * in pieces, at the end, are in target/staticlib/libpieces.a, which `rt staticlib pieces` writes; a program may link both.
  *
  * Each slice is a pointer and the number of its elements. A pointer may not be null, also where the length is 0, a slice that is written
  * may not overlap another, and each must have as many elements as its length says. Nothing else is asked: any bytes may come in, and a
@@ -23,6 +24,9 @@
 #define SKANDRULO_RECORD 1521
 #define SKANDRULO_CERTIFICATE 99
 #define SKANDRULO_REGISTER 17922
+
+/* The bytes of a state that keeps a sheet which arrives in pieces. */
+#define SKANDRULO_STATE 2932
 
 /* Judges a sheet. Returns the number of document 01's table plus 256 times the place.
  *
@@ -142,5 +146,26 @@ enum {
 uint32_t skandrulo_read_extensions(const uint8_t *policies, size_t policies_len, const uint8_t *mappings, size_t mappings_len,
                                    const uint8_t *constraints, size_t constraints_len, const uint8_t *inhibit_any, size_t inhibit_any_len,
                                    uint8_t self_issued, uint8_t *reg, size_t reg_len, uint16_t *certificate, size_t certificate_len);
+
+/* A sheet that arrives in pieces is kept in a state: SKANDRULO_STATE bytes, all of them 0 when it is fresh. The first two are the number of bytes kept,
+ * the high byte first; then these follow, and zeros after them. It keeps the first SKANDRULO_SHEET_BYTES + 1 bytes: no byte after those changes an
+ * answer. Any bytes are a state: a number above the places counts as all of them.
+ *
+ * Each of the three functions answers 7 first where `state` has another number of bytes than SKANDRULO_STATE, and then writes nothing.
+ */
+
+/* Makes a state fresh. Returns 0. */
+uint32_t skandrulo_fresh(uint8_t *state, size_t state_len);
+
+/* Takes a piece, which may be empty: the state is then that of the bytes kept so far followed by the piece. Returns 0, also where the bytes are no sheet
+ * or are too many: refusals are the finish's.
+ */
+uint32_t skandrulo_feed(uint8_t *state, size_t state_len, const uint8_t *piece, size_t piece_len);
+
+/* Finishes the sheet. The result and the three slices are those of skandrulo_judge_sheet on the pieces joined together, 7 for a short one first; with no
+ * piece that is the empty sheet, 1. The state is fresh then, whatever was answered, and serves for the next sheet.
+ */
+uint32_t skandrulo_finish(uint8_t *state, size_t state_len, uint16_t *authority, size_t authority_len, uint16_t *user, size_t user_len,
+                          uint16_t *counts, size_t counts_len);
 
 #endif
