@@ -13,7 +13,7 @@ use Rattle.laws.proofs.Sets.{pick-yes, pick-no}
 use Rattle.pieces.specs.declared.State.{State}
 use Rattle.pieces.specs.Pieces.{kept, held, state-of, fresh-state, fed}
 use Rattle.pieces.specs.Face.{state-bytes, state-in, lent-as, Kept, kept-as, fresh-exported, feed-exported, Ended, finish-exported}
-use Rattle.pieces.proofs.Keeping.{fed-state}
+use Rattle.pieces.proofs.Feeding.{fed-state}
 
 -- both bytes of a count, put before the places
 pub counted : (lent : List ℕ) (a b : ℕ) → 2 ≤ length lent → set (set lent 0 a) 1 b ≡ a ∷ b ∷ drop 2 lent

@@ -1,3 +1,3 @@
-pub mod Keeping
+pub mod Feeding
 pub mod Promise
 pub mod Lent

@@ -5,10 +5,10 @@ ghost use Prim.Native.Nat.{_+_, _*_, _/_, _%_, _≤_};
 ghost use lib.ListN.{length, drop, getD};
 ghost use Rattle.pieces.specs.Face.{Kept, fresh-exported, feed-exported, Ended, finish-exported};
 use crate::KEPT;
-use crate::kept::clear;
-use crate::kept::held;
-use crate::kept::keep;
 use judge::skandrulo_judge_sheet;
+use kept::clear;
+use kept::held;
+use kept::keep;
 
 // The bytes of a lent state. All of them are 0 when it is fresh.
 pub const STATE: usize = 2 + KEPT;

@@ -1,7 +1,6 @@
 // Sheets that arrive in pieces: a state takes the pieces one after another, and at the finish the judge answers for all of them joined together.
 mod c;
 mod in_place;
-mod kept;
 
 ghost use mathlib.Core.Path.{_≡_};
 ghost use Prim.Native.Nat.{ℕ, _≤_};
@@ -19,6 +18,7 @@ pub use c::skandrulo_fresh;
 pub use in_place::feed_in_place;
 pub use in_place::finish_in_place;
 use judge::judge_sheet;
+use kept::held;
 use kept::keep;
 use rules::Answer;
 use rules::SHEET_BYTES;
@@ -69,7 +69,7 @@ pub fn finish(state: State, authority: &mut [u16], user: &mut [u16]) -> Finished
 {
     let bytes = state.bytes;
     let count = state.count;
-    let sheet = kept::held(&bytes, count);
+    let sheet = held(&bytes, count);
     let answer = judge_sheet(sheet, authority, user);
     let after = fresh();
     Finished {

@@ -3,7 +3,7 @@ use mathlib.Core.Path.{_≡_}
 use lib.ListN.{length}
 use borrow.Author.Needs.{needs}
 use Rattle.pieces.specs.Pieces.{kept}
-use Rattle.pieces.proofs.Keeping.{fed-state}
+use Rattle.pieces.proofs.Feeding.{fed-state}
 use Rattle.pieces.proofs.feed.Statement.{statement}
 use Rattle.pieces.proofs.feed.Tie as tie
 

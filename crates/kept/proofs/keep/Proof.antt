@@ -6,9 +6,9 @@ use Prim.Native.Nat.{_+_, _≤_}
 use lib.ListN.{length, take, length-append, length-take}
 use borrow.Author.Needs.{needs}
 use Rattle.rules.specs.Layout.{placed}
-use Rattle.pieces.proofs.Keeping.{kept-bytes, taken-fits, after-copy, cleared-after}
-use Rattle.pieces.proofs.kept.keep.Statement.{statement}
-use Rattle.pieces.proofs.kept.keep.Tie as tie
+use Rattle.kept.proofs.Keeping.{kept-bytes, taken-fits, after-copy, cleared-after}
+use Rattle.kept.proofs.keep.Statement.{statement}
+use Rattle.kept.proofs.keep.Tie as tie
 
 -- what is taken of the piece fits after the bytes held
 fits : (c : tie.After-smaller2) → c .before .smaller .result + length (take (c .smaller2 .result) (c .before .before .before .before .args .piece .now)) ≤ length (c .before .before .before .before .args .places .now)

@@ -7,8 +7,8 @@ use borrow.Author.Fill.{fill-more}
 use native.Mathlib.Omega.{arith}
 use lib.ListN.{length, drop, set, replicate, length-set}
 use lib.Seq.{drop-length}
-use Rattle.pieces.proofs.kept.clear.Statement.{statement}
-use Rattle.pieces.proofs.kept.clear.Tie as tie
+use Rattle.kept.proofs.clear.Statement.{statement}
+use Rattle.kept.proofs.clear.Tie as tie
 
 abbrev Inv-loop : tie.InvT-loop
 Inv-loop places₀ i₀ places i = (i ≤ length places₀) × (length places ≡ length places₀) × (places ≡ replicate i 0 ++ drop i places₀)

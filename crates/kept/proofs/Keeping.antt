@@ -2,21 +2,20 @@
 use Prim.Native.Nat.{ℕ, _+_, _-_, _≤_, _<_, min}
 use native.Mathlib.Omega.{arith}
 use mathlib.Core.List.{List, [], _++_, append-nil}
-use mathlib.Core.Logic.{⊎-elim}
 use mathlib.Core.Path.{_≡_, refl, sym, ap, ap₂, _∙_}
+use lib.Dec.{ltb}
+use borrow.Author.Tests.{ltb-true, ltb-false}
 use lib.ListN.{length, length-append, length-take, length-drop, drop-of-length-le, take, drop, replicate}
 use lib.Seq.{take-all, take-length, take-append-add, take-paste, paste, length-paste}
 use Rattle.rules.specs.Layout.{placed}
-use Rattle.sheet.proofs.Fields.{before-or-not}
-use Rattle.pieces.specs.declared.State.{State}
-use Rattle.pieces.specs.Pieces.{kept, held, state-of, fed}
+use Rattle.laws.proofs.Sets.{by-cases}
 
 -- a count above the places says all of them
 pub take-least : (n : ℕ) (xs : List ℕ) → take (min n (length xs)) xs ≡ take n xs
-take-least n xs = ⊎-elim
-    (λ less. let e : min n (length xs) ≡ n = omega arith in ap (λ k. take k xs) e)
-    (λ more. let e : min n (length xs) ≡ length xs = omega arith in ap (λ k. take k xs) e ∙ take-length xs ∙ sym (take-all n xs more))
-    (before-or-not n (length xs))
+take-least n xs =
+    by-cases (ltb n (length xs))
+    (λ e. let less = ltb-true n (length xs) e in let m : min n (length xs) ≡ n = omega arith in ap (λ k. take k xs) m)
+    (λ e. let more = ltb-false n (length xs) e in let m : min n (length xs) ≡ length xs = omega arith in ap (λ k. take k xs) m ∙ take-length xs ∙ sym (take-all n xs more))
 
 -- the bytes held and those of the piece for which there is room
 pub kept-bytes : (places : List ℕ) (count : ℕ) (piece : List ℕ) (h t : ℕ) → h ≡ min count (length places) → t ≡ min (length piece) (length places - h)
@@ -59,15 +58,3 @@ cleared-after d s h {t} {z} {n} l e p q = ap₂ _++_ front tail
 
     tail : z ++ drop (length t - n) (drop n t) ≡ replicate (length d - length (take h d ++ s)) 0
     tail = ap₂ _++_ (q ∙ ap (λ k. replicate k 0) many) none ∙ append-nil (replicate (length d - length (take h d ++ s)) 0)
-
--- the places and the count of a state that has taken a piece
-pub fed-state : (s : State) (piece places : List ℕ) (n : ℕ) → length (s .bytes) ≡ kept
-    → n ≡ length (take (length (s .bytes)) (take (s .count) (s .bytes) ++ piece))
-    → places ≡ placed (length (s .bytes)) (take (length (s .bytes)) (take (s .count) (s .bytes) ++ piece))
-    → _≡_ {A = State} (record { bytes = places; count = n }) (fed s piece)
-unfolding fed state-of held
-fed-state s piece places n l e f =
-    let bytes = take (s .count) (s .bytes) ++ piece in
-    let many : n ≡ length (take kept bytes) = e ∙ ap (λ m. length (take m bytes)) l in
-    let whole : places ≡ placed kept (take kept bytes) = f ∙ ap (λ m. placed m (take m bytes)) l in
-    λ i. record { bytes = whole i; count = many i }

@@ -3,9 +3,9 @@ use native.Mathlib.Omega.{arith}
 use mathlib.Core.Path.{ap, _∙_}
 use lib.ListN.{take, length-take}
 use borrow.Author.Needs.{needs}
-use Rattle.pieces.proofs.Keeping.{take-least}
-use Rattle.pieces.proofs.kept.held.Statement.{statement}
-use Rattle.pieces.proofs.kept.held.Tie as tie
+use Rattle.kept.proofs.Keeping.{take-least}
+use Rattle.kept.proofs.held.Statement.{statement}
+use Rattle.kept.proofs.held.Tie as tie
 
 returns : tie.Need-returns
 returns c = let a = c .before .before .before .args in ap (λ k. take k (a .places .now)) (c .before .smaller .ensures) ∙ take-least (a .count) (a .places .now)

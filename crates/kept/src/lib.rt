@@ -1,4 +1,4 @@
-// The places of a state, lent: bytes put after those that they hold, and the bytes that they hold.
+// Bytes kept in lent places: more put after those that they hold, and those that they hold.
 ghost use mathlib.Core.Path.{_≡_};
 ghost use mathlib.Core.List.{_++_};
 ghost use Prim.Native.Nat.{_+_, _≤_, min};

@@ -5,8 +5,8 @@ use mathlib.Core.Path.{_≡_}
 use native.Mathlib.Omega.{arith}
 use lib.ListN.{length}
 use Rattle.sets.proofs.Places.{Copied, copied-none, copied-length, copied-more, copied-all}
-use Rattle.pieces.proofs.kept.copy.Statement.{statement}
-use Rattle.pieces.proofs.kept.copy.Tie as tie
+use Rattle.kept.proofs.copy.Statement.{statement}
+use Rattle.kept.proofs.copy.Tie as tie
 
 abbrev Inv-loop : tie.InvT-loop
 Inv-loop places₀ at list i₀ places i = Copied places₀ at list i places
