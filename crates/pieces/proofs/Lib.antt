@@ -1,3 +1,4 @@
 pub mod Feeding
 pub mod Promise
 pub mod Lent
+pub mod Known

@@ -16,6 +16,9 @@ pub const STATE: usize = 2 + KEPT;
 // "a lent table is too short", and here a state of any other size
 const SHORT: u32 = rules::TABLE_SHORT as u32;
 
+// The state is as was asked: no refusal, which is the finish's alone.
+const TAKEN: u32 = rules::VALID as u32;
+
 // The count of a lent state.
 fn count_of(state: &[u8]) -> usize
     requires { ⌜ 2 ≤ length (now state) ⌝ }
@@ -42,7 +45,7 @@ pub extern "C" fn skandrulo_fresh(state: &mut [u8]) -> u32
         return SHORT;
     }
     clear(state);
-    0
+    TAKEN
 }
 
 // Takes a piece: the lent state is then that of the bytes held so far followed by the piece. 7 as above.
@@ -56,7 +59,7 @@ pub extern "C" fn skandrulo_feed(state: &mut [u8], piece: &[u8]) -> u32
     let before = count_of(state);
     let count = keep(&mut state[2..], before, piece);
     put_count(state, count);
-    0
+    TAKEN
 }
 
 // Finishes the sheet: what `skandrulo_judge_sheet` gives on the bytes held, and a fresh state. 7 as above.
