@@ -14,7 +14,7 @@ use Rattle.rules.specs.Answers.{Answer}
 use Rattle.rules.specs.Graph as Graph
 use Rattle.rules.specs.Tree as Tree
 use Rattle.rules.specs.Sheet.{read, read-sheet}
-use Rattle.rules.specs.Judge.{Outcome, outcome, unless-short, after-reading, sheet-judged, Bounded}
+use Rattle.rules.specs.Judge.{Outcome, outcome, refusal, unless-short, after-reading, sheet-judged, Bounded}
 use Rattle.sheet.proofs.Beyond.{beyond-longest}
 use Rattle.judge.proofs.Sheets.{promised}
 use Rattle.pieces.specs.declared.State.{State}
@@ -80,3 +80,8 @@ demands s A U o e =
 
 pub pieces-judged : (pieces : List (List ℕ)) (A U : List ℕ) → Demands (joined pieces) A U (finished Graph.judged (fed-all fresh-state pieces) A U)
 pieces-judged pieces A U = demands (joined pieces) A U _ (whole Graph.judged pieces A U)
+
+-- a finish with no piece is the empty sheet: "the sheet ends inside or before the next field", after 7
+pub nothing-fed : (judged : Path → Answer) (A U : List ℕ) → finished judged fresh-state A U ≡ unless-short A U (refusal Numbers.sheet-ends A U)
+unfolding finished held fresh-state state-of placed sheet-judged after-reading read-sheet
+nothing-fed judged A U = refl
