@@ -149,21 +149,22 @@ uint32_t skandrulo_read_extensions(const uint8_t *policies, size_t policies_len,
 
 /* A sheet that arrives in pieces is kept in a state: SKANDRULO_STATE bytes, all of them 0 when it is fresh. The first two are the number of bytes kept,
  * the high byte first; then these follow, and zeros after them. It keeps the first SKANDRULO_SHEET_BYTES + 1 bytes: no byte after those changes an
- * answer. Any bytes are a state: a number above the places counts as all of them.
+ * answer. Any bytes are a state: a number above the places counts as all of them, and places after the bytes kept count for nothing.
  *
- * Each of the three functions answers 7 first where `state` has another number of bytes than SKANDRULO_STATE, and then writes nothing.
+ * Each of the three functions answers 7 first where `state` has another number of bytes than SKANDRULO_STATE, and then writes nothing at all.
  */
 
 /* Makes a state fresh. Returns 0. */
 uint32_t skandrulo_fresh(uint8_t *state, size_t state_len);
 
-/* Takes a piece, which may be empty: the state is then that of the bytes kept so far followed by the piece. Returns 0, also where the bytes are no sheet
- * or are too many: refusals are the finish's.
+/* Takes a piece, which may be empty: the state is then that of the bytes kept so far followed by the piece, with zeros after them. Returns 0, also where
+ * the bytes are no sheet or are too many: refusals are the finish's.
  */
 uint32_t skandrulo_feed(uint8_t *state, size_t state_len, const uint8_t *piece, size_t piece_len);
 
-/* Finishes the sheet. The result and the three slices are those of skandrulo_judge_sheet on the pieces joined together, 7 for a short one first; with no
- * piece that is the empty sheet, 1. The state is fresh then, whatever was answered, and serves for the next sheet.
+/* Finishes the sheet. The result and the three slices are those of skandrulo_judge_sheet on the bytes kept, and so, where the state was fresh before the
+ * first piece, on the pieces joined together; 7 for a short slice comes first. With no piece that is the empty sheet, 1. Whatever the judge answered, the
+ * state is fresh then and serves for the next sheet.
  */
 uint32_t skandrulo_finish(uint8_t *state, size_t state_len, uint16_t *authority, size_t authority_len, uint16_t *user, size_t user_len,
                           uint16_t *counts, size_t counts_len);

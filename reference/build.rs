@@ -2,14 +2,19 @@
 
 use std::env;
 
+/// The archives of the library.
+const ARCHIVES: [&str; 2] = ["judge", "pieces"];
+
 fn main() {
     println!("cargo:rerun-if-env-changed=JUDGE_LIB_DIR");
     if env::var_os("CARGO_FEATURE_LIBRARY").is_none() {
         return;
     }
     let folder = env::var("JUDGE_LIB_DIR")
-        .expect("JUDGE_LIB_DIR must name the folder that holds libjudge.a");
-    println!("cargo:rerun-if-changed={folder}/libjudge.a");
+        .expect("JUDGE_LIB_DIR must name the folder that holds libjudge.a and libpieces.a");
     println!("cargo:rustc-link-search=native={folder}");
-    println!("cargo:rustc-link-lib=static:-bundle=judge");
+    for archive in ARCHIVES {
+        println!("cargo:rerun-if-changed={folder}/lib{archive}.a");
+        println!("cargo:rustc-link-lib=static:-bundle={archive}");
+    }
 }

@@ -70,6 +70,14 @@ pub struct Judged {
     pub place: usize,
 }
 
+impl Judged {
+    /// The number and place of a returned value.
+    pub(crate) fn of(packed: u32) -> Judged {
+        let (number, place) = unpack(packed);
+        Judged { number, place }
+    }
+}
+
 /// The number that the proved reader or writer returned, and the length of
 /// what it wrote: a sheet's bytes, or the places of a record or a certificate.
 #[derive(Clone, Copy, Debug, PartialEq, Eq)]
@@ -183,8 +191,7 @@ fn judge<I>(
             counts.len(),
         )
     };
-    let (number, place) = unpack(packed);
-    Judged { number, place }
+    Judged::of(packed)
 }
 
 /// Calls a function of the library that reads one slice and writes another.

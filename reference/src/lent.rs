@@ -8,6 +8,7 @@ use crate::random::Random;
 const GUARD: usize = 8;
 
 /// A lent slice inside a longer one, and a copy of the whole as it was.
+#[derive(Clone, PartialEq)]
 pub struct Lent<T> {
     cells: Vec<T>,
     before: Vec<T>,

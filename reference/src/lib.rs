@@ -17,12 +17,16 @@ pub mod graph;
 pub mod harm;
 #[cfg(feature = "library")]
 pub mod judge;
+#[cfg(feature = "library")]
+pub mod judge_pieces;
 pub mod known;
 pub mod known_extensions;
 pub mod lent;
 pub mod path;
+pub mod pieces;
 pub mod random;
 pub mod random_extensions;
+pub mod random_pieces;
 pub mod random_record;
 pub mod record;
 pub mod register;

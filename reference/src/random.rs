@@ -236,14 +236,14 @@ pub fn sheet(random: &mut Random) -> Vec<u8> {
 }
 
 /// One bit of the sheet the other way.
-fn flip_bit(random: &mut Random, mut sheet: Vec<u8>) -> Vec<u8> {
+pub fn flip_bit(random: &mut Random, mut sheet: Vec<u8>) -> Vec<u8> {
     let place = random.below(sheet.len());
     sheet[place] ^= 1 << random.below(8);
     sheet
 }
 
 /// The sheet without some of its last bytes.
-fn cut(random: &mut Random, mut sheet: Vec<u8>) -> Vec<u8> {
+pub fn cut(random: &mut Random, mut sheet: Vec<u8>) -> Vec<u8> {
     sheet.truncate(random.below(sheet.len()));
     sheet
 }

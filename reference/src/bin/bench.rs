@@ -1,5 +1,6 @@
 //! The speed of the proved judge, readers and writer beside the plain graph
-//! judge, codec and reader of extensions of this package, as Markdown.
+//! judge, codec and reader of extensions of this package, and of the proved
+//! judge of pieces beside that of whole sheets, as Markdown.
 //!
 //! Argument: the seed of the sheets (1).
 
@@ -14,11 +15,13 @@ use reference::draft::{Draft, Identifier};
 use reference::everyday::{self, Everyday};
 use reference::extensions;
 use reference::harm::HARMS;
-use reference::judge::{self, Writing, Written};
+use reference::judge::{self, Judged, Writing, Written};
+use reference::judge_pieces;
 use reference::path::{Certificate, Path, MAX_CERTIFICATES, MAX_LIST};
+use reference::pieces::{FRESH, STATE};
 use reference::random::{self, Full, Random, FULL_KINDS};
 use reference::random_extensions::{self, Input};
-use reference::{record, register, sheet, tree};
+use reference::{random_pieces, record, register, sheet, tree};
 
 /// The sheets of one kind and length.
 const SHEETS: usize = 4;
@@ -28,6 +31,9 @@ const BATCHES: usize = 101;
 
 /// The least time of one batch, in microseconds.
 const BATCH_TIME: f64 = 50.0;
+
+/// The numbers of pieces into which a sheet is cut, beside single bytes.
+const PIECES: [usize; 3] = [1, 3, 8];
 
 /// The number and place of an answer.
 type Verdict = (u8, usize);
@@ -62,6 +68,18 @@ impl Tables {
         let judged = (judges.proved)(black_box(input), authority, user, counts);
         black_box(&*self);
         (judged.number, judged.place)
+    }
+
+    /// The proved judge judges once, a sheet that comes in pieces.
+    fn in_pieces(&mut self, state: &mut [u8; STATE], pieces: &[&[u8]]) -> Verdict {
+        let Tables { authority, user, counts } = self;
+        judge_pieces::fresh(state);
+        for piece in black_box(pieces) {
+            judge_pieces::feed(state, piece);
+        }
+        let Judged { number, place } = judge_pieces::finish(state, authority, user, counts);
+        black_box((&*self, &*state));
+        (number, place)
     }
 }
 
@@ -134,6 +152,24 @@ fn writing_alone(path: &Path) -> Times {
 fn rewriting(path: &Path) -> Times {
     let plain = |sheet: &[u8]| sheet::write(&sheet::read(sheet).expect("a sheet"));
     writing(&sheet::write(path), sheet::LONGEST, plain, judge::rewrite_sheet)
+}
+
+/// The pieces of a sheet, so many and as even as can be.
+fn even_pieces(sheet: &[u8], number: usize) -> Vec<&[u8]> {
+    let cuts: Vec<usize> = (1..number).map(|place| place * sheet.len() / number).collect();
+    random_pieces::at(sheet, &cuts)
+}
+
+/// Times the proved judge on a sheet that is answered 0: in one call, in place of
+/// the plain judge, and in so many pieces. Both leave the same.
+fn judging_pieces(sheet: &[u8], number: usize) -> Times {
+    let pieces = even_pieces(sheet, number);
+    let (mut whole, mut joined) = (Tables::new(), Tables::new());
+    let mut state = FRESH;
+    assert_eq!(whole.proved(&JUDGE_SHEET, sheet), VALID);
+    assert_eq!(joined.in_pieces(&mut state, &pieces), VALID);
+    assert_eq!(joined, whole);
+    in_turn(|| whole.proved(&JUDGE_SHEET, sheet), || joined.in_pieces(&mut state, &pieces))
 }
 
 /// The slices lent to one reader of extensions.
@@ -337,12 +373,18 @@ fn print_harm(random: &mut Random) {
 /// A path with its name.
 type Named = (String, Path);
 
+/// The name of an everyday path.
+fn name_of(shape: Everyday) -> String {
+    let Everyday { n, policies, mapped } = shape;
+    format!("{n} x {policies}{}", if mapped { ", mapped" } else { "" })
+}
+
 /// Paths from one certificate with one policy to a full one, answered 0.
 fn small_to_full(random: &mut Random) -> Vec<Named> {
     let shapes = [(1, 1, false), (2, 1, false), (3, 2, false), (4, 4, true)];
     let everyday = shapes.map(|(n, policies, mapped)| {
-        let name = format!("{n} x {policies}{}", if mapped { ", mapped" } else { "" });
-        (name, Everyday { n, policies, mapped }.path())
+        let shape = Everyday { n, policies, mapped };
+        (name_of(shape), shape.path())
     });
     let mut paths = everyday.to_vec();
     let case_b = random::doubling(MAX_CERTIFICATES);
@@ -405,6 +447,43 @@ fn print_records(paths: &[Named]) {
     }
 }
 
+/// The everyday paths of all shapes, and a full one.
+fn everyday_and_full(random: &mut Random) -> Vec<Named> {
+    let shapes = everyday::shapes().into_iter();
+    let mut paths: Vec<Named> = shapes.map(|shape| (name_of(shape), shape.path())).collect();
+    paths.push(full_path(Full::Straight, random));
+    paths
+}
+
+/// The table of sheets in pieces.
+fn print_pieces(paths: &[Named]) {
+    println!(
+        "\nSheets that arrive in pieces, answered 0. The proved judge is timed in one call for"
+    );
+    println!(
+        "the whole sheet, and in turn with that in as many calls as it takes: skandrulo_fresh,"
+    );
+    println!("skandrulo_feed for each piece, and skandrulo_finish. The pieces are as even as can");
+    println!("be. Under their number stands the ratio, time in pieces / time in one call:\n");
+    let numbers = PIECES.map(|number| format!("in {number}")).join(" | ");
+    println!("| sheet | bytes | one call, µs | {numbers} | in single bytes |");
+    println!("|---{}|", "|---:".repeat(PIECES.len() + 3));
+    for (name, path) in paths {
+        print_pieces_row(name, &sheet::write(path));
+    }
+}
+
+/// A row of it.
+fn print_pieces_row(name: &str, sheet: &[u8]) {
+    let bytes = sheet.len();
+    let numbers = PIECES.into_iter().chain([bytes]);
+    let times: Vec<Times> = numbers.map(|number| judging_pieces(sheet, number)).collect();
+    let one_call = microseconds(times[0].plain);
+    let ratios: Vec<String> =
+        times.iter().map(|times| format!("{:.2}", times.proved / times.plain)).collect();
+    println!("| {name} | {bytes} | {one_call} | {} |", ratios.join(" | "));
+}
+
 /// Everyday extensions, with a register of so many entries after the call, to
 /// which their two identifiers belong already or are added.
 fn everyday_extensions(random: &mut Random, entries: usize, new: bool) -> Input {
@@ -453,4 +532,5 @@ fn main() {
     paths.push(full_path(Full::Any, &mut random));
     print_records(&paths);
     print_extensions(&mut random);
+    print_pieces(&everyday_and_full(&mut random));
 }

@@ -9,8 +9,10 @@ use reference::answer::{Answer, DEPTHS, PLACES};
 use reference::extensions::{self, ANSWERS};
 use reference::harm::HARMS;
 use reference::judge::{self, Judged, Judging, Writing, Written};
+use reference::judge_pieces;
 use reference::known_extensions::{self, Standing};
 use reference::path::{Path, MAX_CERTIFICATES, MAX_LIST};
+use reference::pieces::{Fed, FRESH, STATE};
 use reference::random::{self, Random, FULL_KINDS};
 use reference::random_extensions::{self, Input};
 use reference::{everyday, known, record, register, sheet, stack};
@@ -23,12 +25,18 @@ const _: () = assert!(LIMIT < stack::MEASURABLE);
 type Measure = fn(&Path) -> usize;
 
 /// The functions of the library, and what measures each.
-const FUNCTIONS: [(&str, Measure); 5] = [
+const FUNCTIONS: [(&str, Measure); 8] = [
     ("judge_sheet", |path| judging(&sheet::write(path), judge::judge_sheet)),
     ("rewrite_sheet", |path| writing(&sheet::write(path), sheet::LONGEST, judge::rewrite_sheet)),
     ("judge_record", |path| judging(&record::numbers(path), judge::judge_record)),
     ("write_record", |path| writing(&record::numbers(path), sheet::LONGEST, judge::write_record)),
     ("read_record", |path| writing(&sheet::write(path), record::LONGEST, judge::read_record)),
+    ("fresh", |path| keeping(state_of(path), judge_pieces::fresh)),
+    ("feed", |path| {
+        let sheet = sheet::write(path);
+        keeping(FRESH, |state| judge_pieces::feed(state, &sheet))
+    }),
+    ("finish", finishing),
 ];
 
 /// The paths, each with its name: the longest of every kind, case E, the
@@ -74,6 +82,39 @@ fn writing<I: Sync, O: Clone + Default + Send>(
     let mut written = Written { number: sheet::TOO_SHORT, length: 0 };
     let bytes = stack::overwritten(&mut || written = write(input, &mut lent));
     assert!(written.number == 0 && written.length > 0);
+    bytes
+}
+
+/// The state that keeps the sheet of a path.
+fn state_of(path: &Path) -> [u8; STATE] {
+    let mut fed = Fed::default();
+    fed.feed(&sheet::write(path));
+    fed.state()
+}
+
+/// Measures a function that changes a state and judges nothing.
+fn keeping(old: [u8; STATE], change: impl Fn(&mut [u8]) -> u32 + Sync) -> usize {
+    let mut state = old;
+    let mut number = u32::from(sheet::TOO_SHORT);
+    let bytes = stack::overwritten(&mut || {
+        state.copy_from_slice(&old);
+        number = change(&mut state);
+    });
+    assert_eq!(number, 0);
+    bytes
+}
+
+/// Measures the finish of a sheet that came whole.
+fn finishing(path: &Path) -> usize {
+    let old = state_of(path);
+    let mut state = old;
+    let (mut authority, mut user, mut counts) = ([0; PLACES], [0; PLACES], [0; DEPTHS]);
+    let mut judged = Judged { number: sheet::TOO_SHORT, place: 0 };
+    let bytes = stack::overwritten(&mut || {
+        state.copy_from_slice(&old);
+        judged = judge_pieces::finish(&mut state, &mut authority, &mut user, &mut counts);
+    });
+    assert!(!Answer::bare(judged.number, judged.place).is_refusal());
     bytes
 }
 

@@ -1,12 +1,14 @@
 //! The proved judge against the graph judge, the tree judge and the codec of
-//! this package, on sheets and on records, and its reader of extensions against
-//! the plain one.
+//! this package, on sheets, on records and on sheets in pieces, and its reader of
+//! extensions against the plain one.
 //!
 //! Arguments: the seed (1), the number of random sheets (200000) and of random
-//! extensions; half as many random records are compared.
+//! extensions; half as many random records and random sheets in pieces are
+//! compared.
 
 mod extensions;
 mod limits;
+mod pieces;
 mod records;
 mod run;
 
@@ -110,7 +112,7 @@ impl Run {
     }
 
     /// What is to be seen must have come up so many times at least.
-    fn seen(&mut self, what: &str, times: usize, least: usize, inputs: &str) {
+    pub fn seen(&mut self, what: &str, times: usize, least: usize, inputs: &str) {
         println!("{what}: {times} {inputs}");
         self.check::<u8>(times >= least, || format!("{what} is too rare in {inputs}"), &[]);
     }
@@ -248,6 +250,7 @@ fn main() -> ExitCode {
     run.random_bytes();
     run.everyday_and_harm();
     run.records(sheets / 2);
+    run.pieces(sheets / 2);
     run.extensions(sheets);
     println!("compared with the tree: {}, over its cap: {}", run.trees, run.over_cap);
     println!("{} passed, {} failed", run.passed, run.failed);

@@ -40,11 +40,12 @@ pub struct Lengths {
 pub const ENOUGH: Lengths = Lengths { authority: PLACES, user: PLACES, counts: DEPTHS };
 
 /// The plain answer with tables of these lengths.
-fn expected<I>(judges: &Judges<I>, input: &[I], lengths: Lengths) -> Answer {
+pub fn expected(lengths: Lengths, plain: impl FnOnce(&mut [u16], &mut [u16]) -> Answer) -> Answer {
+    let answer = plain(&mut vec![0; lengths.authority], &mut vec![0; lengths.user]);
     if lengths.counts < DEPTHS {
         return Answer::bare(sheet::TOO_SHORT, 0);
     }
-    (judges.plain)(input, &mut vec![0; lengths.authority], &mut vec![0; lengths.user])
+    answer
 }
 
 /// A function of the library that writes into a lent slice, the plain one
@@ -77,11 +78,39 @@ const READ_RECORD: Writer<u8, u16> = Writer {
     old: Random::word,
 };
 
-/// The tables lent for one judgement, and what the proved judge returned.
-pub struct Judgement {
+/// The tables lent for one judgement.
+#[derive(Clone, PartialEq)]
+pub struct Tables {
     authority: Lent<u16>,
     user: Lent<u16>,
     counts: Lent<u16>,
+}
+
+impl Tables {
+    /// Tables full of old values.
+    pub fn new(lengths: Lengths, random: &mut Random) -> Tables {
+        Tables {
+            authority: Lent::new(lengths.authority, random, Random::word),
+            user: Lent::new(lengths.user, random, Random::word),
+            counts: Lent::new(lengths.counts, random, Random::word),
+        }
+    }
+
+    /// Has the proved judge judge with these tables.
+    pub fn judged(
+        mut self,
+        proved: impl FnOnce(&mut [u16], &mut [u16], &mut [u16]) -> Judged,
+    ) -> Judgement {
+        let Tables { authority, user, counts } = &mut self;
+        let judged = proved(authority.slice(), user.slice(), counts.slice());
+        Judgement { tables: self, judged }
+    }
+}
+
+/// The tables after a judgement, and what the proved judge returned.
+#[derive(PartialEq)]
+pub struct Judgement {
+    tables: Tables,
     pub judged: Judged,
 }
 
@@ -93,26 +122,24 @@ impl Judgement {
         lengths: Lengths,
         random: &mut Random,
     ) -> Judgement {
-        let mut authority = Lent::new(lengths.authority, random, Random::word);
-        let mut user = Lent::new(lengths.user, random, Random::word);
-        let mut counts = Lent::new(lengths.counts, random, Random::word);
-        let judged = (judges.proved)(input, authority.slice(), user.slice(), counts.slice());
-        Judgement { authority, user, counts, judged }
+        Tables::new(lengths, random)
+            .judged(|authority, user, counts| (judges.proved)(input, authority, user, counts))
     }
 
     /// Whether number, place, every place of every table and every guard are
     /// as the answer demands.
     pub fn shows(&self, answer: &Answer) -> bool {
-        let (mut authority, mut user) = (self.authority.old(), self.user.old());
+        let tables = &self.tables;
+        let (mut authority, mut user) = (tables.authority.old(), tables.user.old());
         answer.fill(&mut authority, &mut user);
-        let mut counts = self.counts.old();
+        let mut counts = tables.counts.old();
         if answer.number != sheet::TOO_SHORT {
             counts[..DEPTHS].copy_from_slice(&answer.counts);
         }
         self.judged == Judged { number: answer.number, place: answer.place }
-            && self.authority.holds(&authority)
-            && self.user.holds(&user)
-            && self.counts.holds(&counts)
+            && tables.authority.holds(&authority)
+            && tables.user.holds(&user)
+            && tables.counts.holds(&counts)
     }
 }
 
@@ -165,7 +192,8 @@ impl Run {
     /// record, against the graph judge and, within the cap, the tree judge. Where
     /// it is answered 3 it must have a cause. Returns the expected answer.
     pub fn judge(&mut self, sheet: &[u8], lengths: Lengths, cap: usize) -> Answer {
-        let expected = expected(&JUDGE_SHEET, sheet, lengths);
+        let expected =
+            expected(lengths, |authority, user| (JUDGE_SHEET.plain)(sheet, authority, user));
         let judgement = self.answered(&JUDGE_SHEET, sheet, lengths, &expected);
         if let Ok(path) = sheet::read(sheet) {
             if !expected.is_refusal() {
@@ -183,7 +211,8 @@ impl Run {
     /// One record, one set of tables: the proved judge against the graph
     /// judge. Returns the expected answer.
     pub fn judge_record(&mut self, record: &[u16], lengths: Lengths) -> Answer {
-        let expected = expected(&JUDGE_RECORD, record, lengths);
+        let expected =
+            expected(lengths, |authority, user| (JUDGE_RECORD.plain)(record, authority, user));
         self.answered(&JUDGE_RECORD, record, lengths, &expected);
         expected
     }
