@@ -2,7 +2,7 @@
 use Prim.Native.Nat.{ℕ, suc, _-_}
 use mathlib.Core.List.{List, [], _∷_, _++_, map}
 use mathlib.Core.Path.{_≡_, refl}
-use lib.ListN.{length, take, replicate}
+use lib.ListN.{length, replicate}
 use Rattle.pieces.specs.declared.State.{State}
 use Rattle.pieces.specs.Pieces.{kept, held, state-of, fresh-state, fed, joined}
 use Rattle.pieces.specs.Face.{state-in, lent-as}

@@ -4,7 +4,7 @@ use Prim.Native.Nat.{ℕ, zero, suc, _+_, _≤_}
 use native.Mathlib.Omega.{arith}
 use mathlib.Core.List.{List, [], _∷_, _++_, append-nil, append-assoc}
 use mathlib.Core.Path.{_≡_, refl, sym, ap, _∙_}
-use lib.ListN.{length, take}
+use lib.ListN.{take}
 use lib.Seq.{take-append-seam}
 use Rattle.rules.specs.declared.Answer.{Answer as StoredAnswer}
 use Rattle.rules.specs.Numbers as Numbers

@@ -4,15 +4,13 @@ use Prim.Native.Nat.{ℕ, zero, suc, _+_, _-_, _*_, _/_, _%_, _^_, _≤_, _<_}
 use mathlib.Core.Bool.{Bool, true, false, _&&_}
 use mathlib.Core.List.{List, [], _∷_, _++_}
 use mathlib.Core.Logic.{⊎-elim}
-use mathlib.Core.Path.{_≡_, refl, sym, ap, ap₂, _∙_, subst}
+use mathlib.Core.Path.{_≡_, refl, sym, ap, _∙_, subst}
 use native.Mathlib.Omega.{arith}
 use native.Mathlib.Nat.{mod-eq-of-lt}
 use lib.Dec.{eqb, leb, ltb}
 use lib.ListN.{length, length-take, take, getD}
 use lib.Seq.{getD-take, take-all}
 use borrow.Author.Tests.{le-leb, le-ltb}
-use Rattle.rules.specs.declared.Skip.{Skip}
-use Rattle.rules.specs.declared.Skip.the-variants.{Absent, Certificates}
 use Rattle.rules.specs.Limits as Limits
 use Rattle.rules.specs.Numbers as Numbers
 use Rattle.rules.specs.Sets.{pick}

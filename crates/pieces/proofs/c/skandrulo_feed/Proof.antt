@@ -1,5 +1,4 @@
 -- `skandrulo_feed` meets its contract: what `keep` makes of the places and the count that is put are the state that has taken the piece (Lent).
-use native.Mathlib.Omega.{arith}
 use mathlib.Core.Path.{refl}
 use borrow.Author.Needs.{needs}
 use Rattle.pieces.proofs.Lent.{feed-wrong, feed-right}

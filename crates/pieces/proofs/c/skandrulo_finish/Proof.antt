@@ -1,5 +1,4 @@
 -- `skandrulo_finish` meets its contract: the judge's own on the bytes that the lent state holds, and zeros then (Lent).
-use native.Mathlib.Omega.{arith}
 use mathlib.Core.Path.{refl}
 use borrow.Author.Needs.{needs}
 use Rattle.pieces.proofs.Lent.{finish-wrong, finish-right}
