@@ -1,11 +1,12 @@
--- A copy into a table: the first places one by one, and zero in the others.
+-- A copy into a table: the first places one by one, and zero in the others. The same laws serve the loops over bytes in `kept`.
 use Prim.Native.Nat.{ℕ, _+_, _-_, _≤_, _<_}
 use native.Mathlib.Numerals.{add-one}
 use native.Mathlib.Omega.{arith}
 use mathlib.Core.List.{List, [], _++_, append-nil}
 use mathlib.Core.Path.{_≡_, refl, sym, ap, ap₂, _∙_}
-use lib.ListN.{length, length-take, length-drop, drop-of-length-le, take, drop, set, getD, replicate}
-use lib.Seq.{take-length, take-paste, paste, paste-zero, paste-suc, length-paste}
+use lib.ListN.{length, length-take, length-drop, length-set, drop-of-length-le, take, drop, set, getD, replicate}
+use borrow.Author.Fill.{fill-more}
+use lib.Seq.{drop-length, take-length, take-paste, paste, paste-zero, paste-suc, length-paste}
 use Rattle.rules.specs.Layout.{placed}
 
 placed-is : (m : ℕ) (xs : List ℕ) → placed m xs ≡ xs ++ replicate (m - length xs) 0
@@ -35,6 +36,29 @@ module _ {d : List ℕ} {at : ℕ} {s : List ℕ} (fits : at + length s ≤ leng
   copied-all {j} h c =
       let e : j ≡ length s = omega arith in
       c .places ∙ ap (λ k. paste d at s k) e
+
+-- t is d with zero in its first i places
+pub record Cleared (d : List ℕ) (i : ℕ) (t : List ℕ) : Type 0 where
+  pub some : i ≤ length d
+  pub same : length t ≡ length d
+  pub places : t ≡ replicate i 0 ++ drop i d
+
+module _ {d : List ℕ} where
+  pub cleared-none : Cleared d 0 d
+  cleared-none = record { some = omega arith; same = refl; places = refl }
+
+  pub cleared-more : {i : ℕ} {t : List ℕ} → i < length t → Cleared d i t → Cleared d (i + 1) (set t i 0)
+  cleared-more {i} {t} h c =
+      record {
+        some = omega (arith, c .same);
+        same = length-set t i 0 ∙ c .same;
+        places = ap (λ xs. set xs i 0) (c .places) ∙ fill-more i 0 _ (omega (arith, c .same));
+      }
+
+  pub cleared-all : {i : ℕ} {t : List ℕ} → length t ≤ i → Cleared d i t → t ≡ replicate (length d) 0
+  cleared-all {i} h c =
+      let e : i ≡ length d = omega (arith, c .some, c .same) in
+      c .places ∙ ap (λ k. replicate k 0 ++ drop k d) e ∙ ap (λ xs. replicate (length d) 0 ++ xs) (drop-length d) ∙ append-nil _
 
 -- a table with s copied to its front, whose tail from there on has come back as zeros
 pub filled : (d s : List ℕ) {t z : List ℕ} {n : ℕ} → length s ≤ length d → n ≡ 0 + length s → t ≡ paste d 0 s (length s) → z ≡ replicate (length (take (length t - n) (drop n t))) 0 → take n t ++ (z ++ drop (length t - n) (drop n t)) ≡ placed (length d) s
