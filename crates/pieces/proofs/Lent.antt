@@ -12,7 +12,7 @@ use Rattle.rules.specs.Face.{Judged, sheet-exported}
 use Rattle.laws.proofs.Sets.{pick-yes, pick-no}
 use Rattle.pieces.specs.declared.State.{State}
 use Rattle.pieces.specs.Pieces.{kept, held, state-of, fresh-state, fed}
-use Rattle.pieces.specs.Face.{state-bytes, state-in, lent-as, Kept, kept-as, fresh-exported, feed-exported, Ended, finish-exported}
+use Rattle.pieces.specs.Face.{state-bytes, state-in, lent-as, Taken, taken-as, fresh-exported, feed-exported, Ended, finish-exported}
 use Rattle.pieces.proofs.Feeding.{fed-state}
 
 -- both bytes of a count, put before the places
@@ -28,19 +28,19 @@ put-back (x ∷ []) places n h e = absurd (omega arith)
 put-back (x ∷ y ∷ lent) places n h e = ap (λ xs. places ++ xs) (drop-of-length-le lent {i = n} (omega arith)) ∙ append-nil places
 
 module _ (lent : List ℕ) where
-  wrong : (s : State) → (length lent ≡ state-bytes → ⊥) → _≡_ {A = Kept} (record { result = Numbers.table-short; state = lent }) (kept-as lent s)
-  unfolding kept-as
+  wrong : (s : State) → (length lent ≡ state-bytes → ⊥) → _≡_ {A = Taken} (record { result = Numbers.table-short; state = lent }) (taken-as lent s)
+  unfolding taken-as
   wrong s h = sym (pick-no _ _ (ne-eqb (length lent) state-bytes h))
 
-  right : (s : State) (now : List ℕ) → length lent ≡ state-bytes → now ≡ lent-as s → _≡_ {A = Kept} (record { result = Numbers.valid; state = now }) (kept-as lent s)
-  unfolding kept-as
+  right : (s : State) (now : List ℕ) → length lent ≡ state-bytes → now ≡ lent-as s → _≡_ {A = Taken} (record { result = Numbers.valid; state = now }) (taken-as lent s)
+  unfolding taken-as
   right s now h e = (λ i. record { result = Numbers.valid; state = e i }) ∙ sym (pick-yes _ _ (eq-eqb (length lent) state-bytes h))
 
-  pub fresh-wrong : (length lent ≡ state-bytes → ⊥) → _≡_ {A = Kept} (record { result = Numbers.table-short; state = lent }) (fresh-exported lent)
+  pub fresh-wrong : (length lent ≡ state-bytes → ⊥) → _≡_ {A = Taken} (record { result = Numbers.table-short; state = lent }) (fresh-exported lent)
   unfolding fresh-exported
   fresh-wrong h = wrong fresh-state h
 
-  pub feed-wrong : (piece : List ℕ) → (length lent ≡ state-bytes → ⊥) → _≡_ {A = Kept} (record { result = Numbers.table-short; state = lent }) (feed-exported lent piece)
+  pub feed-wrong : (piece : List ℕ) → (length lent ≡ state-bytes → ⊥) → _≡_ {A = Taken} (record { result = Numbers.table-short; state = lent }) (feed-exported lent piece)
   unfolding feed-exported
   feed-wrong piece h = wrong (fed (state-in lent) piece) h
 
@@ -49,7 +49,7 @@ module _ (lent : List ℕ) where
   unfolding lent-as fresh-state state-of placed
   zeros = refl
 
-  pub fresh-right : (now : List ℕ) → length lent ≡ state-bytes → now ≡ replicate (length lent) 0 → _≡_ {A = Kept} (record { result = Numbers.valid; state = now }) (fresh-exported lent)
+  pub fresh-right : (now : List ℕ) → length lent ≡ state-bytes → now ≡ replicate (length lent) 0 → _≡_ {A = Taken} (record { result = Numbers.valid; state = now }) (fresh-exported lent)
   unfolding fresh-exported
   fresh-right now h e = right fresh-state now h (e ∙ ap (λ n. replicate n 0) h ∙ zeros)
 
@@ -64,7 +64,7 @@ module _ (lent : List ℕ) where
       → n ≡ length (take (length (places-in m)) (take before (places-in m) ++ piece))
       → places ≡ placed (length (places-in m)) (take (length (places-in m)) (take before (places-in m) ++ piece))
       → now ≡ n / 256 % 256 ∷ n % 256 ∷ drop 2 (take 2 lent ++ (places ++ drop m (drop 2 lent)))
-      → _≡_ {A = Kept} (record { result = Numbers.valid; state = now }) (feed-exported lent piece)
+      → _≡_ {A = Taken} (record { result = Numbers.valid; state = now }) (feed-exported lent piece)
   unfolding feed-exported state-in lent-as
   feed-right piece now places before n m h q b e f p =
       right (fed (state-in lent) piece) now h

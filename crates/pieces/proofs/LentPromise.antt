@@ -17,7 +17,7 @@ use Rattle.demands.proofs.Exported.{export}
 use Rattle.judge.proofs.Exported.{sheet-export}
 use Rattle.pieces.specs.declared.State.{State}
 use Rattle.pieces.specs.Pieces.{kept, held, state-of, fresh-state, fed, fed-all, joined}
-use Rattle.pieces.specs.Face.{state-bytes, state-in, lent-as, Kept, kept-as, feed-exported, finish-exported}
+use Rattle.pieces.specs.Face.{state-bytes, state-in, lent-as, Taken, taken-as, feed-exported, finish-exported}
 use Rattle.pieces.proofs.Promise.{held-after}
 
 -- a state whose count two bytes can say, with as many places as there are
@@ -49,7 +49,7 @@ lent-size s w = omega (arith, w .places)
 
 -- one piece
 feed-lent : (s : State) (piece : List ℕ) → Sound s → feed-exported (lent-as s) piece ≡ record { result = Numbers.valid; state = lent-as (fed s piece) }
-unfolding feed-exported kept-as
+unfolding feed-exported taken-as
 feed-lent s piece w =
     pick-yes _ _ (eq-eqb (length (lent-as s)) state-bytes (lent-size s w))
     ∙ ap (λ (x : State). record { result = Numbers.valid; state = lent-as (fed x piece) }) (lent-back s w)
@@ -64,7 +64,7 @@ lent-all : (s : State) (pieces : List (List ℕ)) → Sound s → lent-fed-all (
 unfolding lent-fed-all fed-all
 lent-all s [] w = refl
 lent-all s (piece ∷ pieces) w =
-    ap (λ (k : Kept). lent-fed-all (k .state) pieces) (feed-lent s piece w)
+    ap (λ (k : Taken). lent-fed-all (k .state) pieces) (feed-lent s piece w)
     ∙ lent-all (fed s piece) pieces (fed-sound s piece)
 
 all-sound : (s : State) (pieces : List (List ℕ)) → Sound s → Sound (fed-all s pieces)

@@ -22,22 +22,22 @@ unfoldable pub lent-as : State → List ℕ
 lent-as s = s .count / 256 % 256 ∷ s .count % 256 ∷ s .bytes
 
 -- the result and the lent state
-pub record Kept : Type 0 where
+pub record Taken : Type 0 where
   pub result : ℕ
   pub state : List ℕ
 
 -- 7 where the state has another number of bytes: nothing is written
-unfoldable pub kept-as : List ℕ → State → Kept
+unfoldable pub taken-as : List ℕ → State → Taken
 unfolding pick lent-as
-kept-as lent s = pick (eqb (length lent) state-bytes) (record { result = Numbers.valid; state = lent-as s }) (record { result = Numbers.table-short; state = lent })
+taken-as lent s = pick (eqb (length lent) state-bytes) (record { result = Numbers.valid; state = lent-as s }) (record { result = Numbers.table-short; state = lent })
 
-unfoldable pub fresh-exported : List ℕ → Kept
-unfolding kept-as fresh-state
-fresh-exported lent = kept-as lent fresh-state
+unfoldable pub fresh-exported : List ℕ → Taken
+unfolding taken-as fresh-state
+fresh-exported lent = taken-as lent fresh-state
 
-unfoldable pub feed-exported : List ℕ → List ℕ → Kept
-unfolding kept-as fed state-in
-feed-exported lent piece = kept-as lent (fed (state-in lent) piece)
+unfoldable pub feed-exported : List ℕ → List ℕ → Taken
+unfolding taken-as fed state-in
+feed-exported lent piece = taken-as lent (fed (state-in lent) piece)
 
 -- the judge's result and slices, and the lent state
 pub record Ended : Type 0 where

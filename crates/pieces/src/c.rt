@@ -3,7 +3,7 @@ ghost use mathlib.Core.Path.{_≡_};
 ghost use mathlib.Core.List.{_∷_};
 ghost use Prim.Native.Nat.{_+_, _*_, _/_, _%_, _≤_};
 ghost use lib.ListN.{length, drop, getD};
-ghost use Rattle.pieces.specs.Face.{Kept, fresh-exported, feed-exported, Ended, finish-exported};
+ghost use Rattle.pieces.specs.Face.{Taken, fresh-exported, feed-exported, Ended, finish-exported};
 use crate::KEPT;
 use judge::skandrulo_judge_sheet;
 use kept::clear;
@@ -39,7 +39,7 @@ fn put_count(state: &mut [u8], count: usize)
 // Makes a lent state fresh. 7 where it has another number of bytes than STATE: then nothing is written.
 #[no_mangle]
 pub extern "C" fn skandrulo_fresh(state: &mut [u8]) -> u32
-    ensures { λ r. ⌜ _≡_ {A = Kept} (record { result = r; state = now (state .exit) }) (fresh-exported (now (state .entry))) ⌝ }
+    ensures { λ r. ⌜ _≡_ {A = Taken} (record { result = r; state = now (state .exit) }) (fresh-exported (now (state .entry))) ⌝ }
 {
     if state.len() != STATE {
         return SHORT;
@@ -51,7 +51,7 @@ pub extern "C" fn skandrulo_fresh(state: &mut [u8]) -> u32
 // Takes a piece: the lent state is then that of the bytes held so far followed by the piece. 7 as above.
 #[no_mangle]
 pub extern "C" fn skandrulo_feed(state: &mut [u8], piece: &[u8]) -> u32
-    ensures { λ r. ⌜ _≡_ {A = Kept} (record { result = r; state = now (state .exit) }) (feed-exported (now (state .entry)) (now (piece .entry))) ⌝ }
+    ensures { λ r. ⌜ _≡_ {A = Taken} (record { result = r; state = now (state .exit) }) (feed-exported (now (state .entry)) (now (piece .entry))) ⌝ }
 {
     if state.len() != STATE {
         return SHORT;
