@@ -144,33 +144,6 @@ module _ (distinct : Bool) (i n : ℕ) (l : List ℕ) where
     pub policy-passed : fault-of distinct (take i l) (getD l i 0) ≡ 0 → policies-from i ≡ policies-from (i + 1)
     policy-passed e = policies-left ∙ ap (λ f. f or-else policies-from (i + 1)) e ∙ or-else-none _
 
--- the pairs left from place i
-
-module _ (i n : ℕ) (ds ss : List ℕ) where
-  abbrev left-fault : ℕ → ℕ
-  left-fault j = mappings-fault (pairs (slice j n ds) (slice j n ss))
-
-  pub mappings-none : n ≤ i → left-fault i ≡ 0
-  unfolding mappings-fault pairs
-  mappings-none h = ap (λ d. mappings-fault (pairs d (slice i n ss))) (left-none i n ds h)
-
-  module _ (h : i < n) (k : n ≤ length ds) (l : n ≤ length ss) where
-    mappings-left : left-fault i ≡ (policy-fault (getD ds i 0) or-else policy-fault (getD ss i 0) or-else left-fault (i + 1))
-    unfolding mappings-fault pairs
-    mappings-left = ap₂ (λ d s. mappings-fault (pairs d s)) (left-cons i n ds 0 h k) (left-cons i n ss 0 h l)
-
-    pub issuer-zero : getD ds i 0 ≡ 0 → left-fault i ≡ Numbers.policy-zero
-    issuer-zero e = mappings-left ∙ ap (λ f. f or-else policy-fault (getD ss i 0) or-else left-fault (i + 1)) (ap policy-fault e ∙ policy-none) ∙ or-else-fault _ (λ z. omega arith)
-
-    pub issuer-some : (getD ds i 0 ≡ 0 → ⊥) → left-fault i ≡ (policy-fault (getD ss i 0) or-else left-fault (i + 1))
-    issuer-some e = mappings-left ∙ ap (λ f. f or-else policy-fault (getD ss i 0) or-else left-fault (i + 1)) (policy-some e) ∙ or-else-none _
-
-    pub subject-zero : (getD ds i 0 ≡ 0 → ⊥) → getD ss i 0 ≡ 0 → left-fault i ≡ Numbers.policy-zero
-    subject-zero e f = issuer-some e ∙ ap (λ f. f or-else left-fault (i + 1)) (ap policy-fault f ∙ policy-none) ∙ or-else-fault _ (λ z. omega arith)
-
-    pub pair-some : (getD ds i 0 ≡ 0 → ⊥) → (getD ss i 0 ≡ 0 → ⊥) → left-fault i ≡ left-fault (i + 1)
-    pair-some e f = issuer-some e ∙ ap (λ f. f or-else left-fault (i + 1)) (policy-some f) ∙ or-else-none _
-
 -- the certificates left from place i
 
 module _ (i n : ℕ) (cs : List Certificate) where

@@ -1,7 +1,8 @@
-// The refusals of a path handed over decoded: 3, 4 and 5, the first fault in the sheet's field order.
+// The refusals of a path handed over decoded: 3, 4, 5 and 11, the first fault in the sheet's field order; and the fault of a pair, for whoever reads one.
 use rules::CERTIFICATES;
 use rules::Certificate;
 use rules::LISTED;
+use rules::PAIR_REPEATS;
 use rules::POLICY_REPEATS;
 use rules::POLICY_ZERO;
 use rules::Path;
@@ -13,7 +14,7 @@ ghost use lib.ListN.{length, take};
 ghost use Rattle.rules.specs.Limits as Limits;
 ghost use Rattle.rules.specs.Sets.{pick, _∈_};
 ghost use Rattle.rules.specs.Layout.{pairs};
-ghost use Rattle.rules.specs.Faults.{_or-else_, n-fault, count-fault, user-fault, listed-fault, policies-fault, mappings-fault, certificate-fault, path-fault};
+ghost use Rattle.rules.specs.Faults.{_or-else_, n-fault, count-fault, user-fault, listed-fault, policies-fault, pair-among, pair-fault, mappings-fault, certificate-fault, path-fault};
 
 // The fault of the number of certificates.
 pub fn n_fault(n: usize) -> u8
@@ -67,7 +68,43 @@ pub fn policies_fault(values: &[u16], count: usize, distinct: bool) -> u8
     0
 }
 
-// The fault of the count of pairs, or else of the first pair that names 0.
+// Whether the pair of `issuer` and `subject` is among the first `before` pairs.
+fn pair_seen(issuers: &[u16], subjects: &[u16], before: usize, issuer: u16, subject: u16) -> bool
+    requires { ⌜ before ≤ length (now issuers) ⌝ }
+    requires { ⌜ before ≤ length (now subjects) ⌝ }
+    ensures { λ r. ⌜ r ≡ pair-among issuer subject (pairs (take before (now (issuers .entry))) (take before (now (subjects .entry)))) ⌝ }
+{
+    let mut found = false;
+    let mut i = 0;
+    while i < before {
+        let d = issuers[i];
+        let s = subjects[i];
+        if d == issuer {
+            if s == subject {
+                found = true;
+            }
+        }
+        i += 1;
+    }
+    found
+}
+
+// The fault of a pair's subject, after its issuer and the first `before` pairs: that it is 0, or else that the pair repeats.
+pub fn pair_fault(issuers: &[u16], subjects: &[u16], before: usize, issuer: u16, subject: u16) -> u8
+    requires { ⌜ before ≤ length (now issuers) ⌝ }
+    requires { ⌜ before ≤ length (now subjects) ⌝ }
+    ensures { λ r. ⌜ r ≡ pair-fault (pairs (take before (now (issuers .entry))) (take before (now (subjects .entry)))) issuer subject ⌝ }
+{
+    if subject == 0 {
+        return POLICY_ZERO;
+    }
+    if pair_seen(issuers, subjects, before, issuer, subject) {
+        return PAIR_REPEATS;
+    }
+    0
+}
+
+// The fault of the count of pairs, or else of the first pair that names 0 or repeats.
 pub fn mappings_fault(issuers: &[u16], subjects: &[u16], number: usize) -> u8
     requires { ⌜ (number ≤ Limits.listed → number ≤ length (now issuers)) ⌝ }
     requires { ⌜ (number ≤ Limits.listed → number ≤ length (now subjects)) ⌝ }
@@ -78,11 +115,14 @@ pub fn mappings_fault(issuers: &[u16], subjects: &[u16], number: usize) -> u8
     }
     let mut i = 0;
     while i < number {
-        if issuers[i] == 0 {
+        let issuer = issuers[i];
+        if issuer == 0 {
             return POLICY_ZERO;
         }
-        if subjects[i] == 0 {
-            return POLICY_ZERO;
+        let subject = subjects[i];
+        let fault = pair_fault(issuers, subjects, i, issuer, subject);
+        if fault != 0 {
+            return fault;
         }
         i += 1;
     }
@@ -103,7 +143,7 @@ fn certificate_fault(c: Certificate) -> u8
     mappings_fault(&issuers, &subjects, c.mapping_count)
 }
 
-// "A path handed over decoded is refused by 3, 4 and 5 in the sheet's field order"; 0 where it has no fault.
+// "A path handed over decoded is refused by 3, 4 and 5 in the sheet's field order", and by 11; 0 where it has no fault.
 pub fn path_fault(p: Path) -> u8
     ensures { λ r. ⌜ r ≡ path-fault p ⌝ }
 {

@@ -9,10 +9,10 @@ use Rattle.rules.specs.Paths.{Path, listed-to}
 use Rattle.rules.specs.Judge.{Bounded}
 use Rattle.rules.proofs.Notation.{_to_, certificate, plain, path}
 
--- three policies and two pairs; one policy; a pair twice
+-- three policies and two pairs; one policy; two pairs of one issuer
 unfoldable pub three : Path
 unfolding path plain certificate _to_
-three = path false false false [] (plain (11 ∷ 12 ∷ 13 ∷ []) (11 to 14 ∷ 12 to 14 ∷ []) ∷ plain (14 ∷ []) [] ∷ plain [] (14 to 15 ∷ 14 to 15 ∷ []) ∷ [])
+three = path false false false [] (plain (11 ∷ 12 ∷ 13 ∷ []) (11 to 14 ∷ 12 to 14 ∷ []) ∷ plain (14 ∷ []) [] ∷ plain [] (14 to 15 ∷ 14 to 16 ∷ []) ∷ [])
 
 pub record Row : Type 0 where
   pub depth : ℕ

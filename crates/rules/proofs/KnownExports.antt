@@ -7,7 +7,7 @@ use lib.ListN.{replicate}
 use Rattle.rules.specs.Limits.{table, depths, sheet-bytes}
 use Rattle.rules.specs.Graph as Graph
 use Rattle.rules.specs.Face.{refused-answer, Judged, sheet-exported, Rewritten, sheet-rewritten}
-use Rattle.rules.proofs.Notation.{filled, sheet-D, sheet-E, sheet-H}
+use Rattle.rules.proofs.Notation.{filled, sheet-D, sheet-E, sheet-H, sheet-repeated}
 
 -- A refusal in the code's own type: its number, place 0 and a zero for each depth.
 pub known-refused : refused-answer 5 ≡ record { number = 5; place = 0; counts = replicate depths 0 }
@@ -32,7 +32,7 @@ unfolding row
 unchanged s a u c r = row s a u c r (replicate a 7) (replicate u 8) (replicate c 9)
 
 unfoldable pub rows : List Row
-unfolding row unchanged filled sheet-D sheet-E sheet-H
+unfolding row unchanged filled sheet-D sheet-E sheet-H sheet-repeated
 rows =
     -- 0: the counts in the first places, one for each depth
     row sheet-E table (table + 1) depths 0 (filled table 0 (1 ∷ [])) (filled (table + 1) 0 (30 ∷ 31 ∷ [])) (filled depths 0 (1 ∷ 1 ∷ []))
@@ -42,6 +42,7 @@ rows =
     ∷ row sheet-D table table (depths + 1) 264 (replicate table 0) (replicate table 0) (filled depths 0 [] ++ 9 ∷ [])
     -- a refusal of the sheet: both tables unchanged, the counts zero
     ∷ row [] table (table + 1) (depths + 1) 1 (replicate table 7) (replicate (table + 1) 8) (filled depths 0 [] ++ 9 ∷ [])
+    ∷ row sheet-repeated (table + 1) table depths 11 (replicate (table + 1) 7) (replicate table 8) (filled depths 0 [])
     -- 7: nothing is written; an authority table or a user table one place short, and counts one place short
     ∷ unchanged sheet-E (table - 1) table depths 7
     ∷ unchanged sheet-E table (table - 1) depths 7
@@ -66,13 +67,14 @@ rewrite-row : List ℕ → ℕ → ℕ → List ℕ → RewriteRow
 rewrite-row s n r B′ = record { sheet = s; buffer = replicate n 170; rewritten = record { result = r; buffer = B′ } }
 
 unfoldable pub rewrite-rows : List RewriteRow
-unfolding rewrite-row filled sheet-E
+unfolding rewrite-row filled sheet-E sheet-repeated
 rewrite-rows =
     -- 256 times the length, the sheet first, and every later byte unchanged
     rewrite-row sheet-E sheet-bytes 2560 (filled sheet-bytes 170 sheet-E)
     ∷ rewrite-row sheet-E (sheet-bytes + 2) 2560 (filled (sheet-bytes + 2) 170 sheet-E)
     -- a refusal of the sheet: the buffer unchanged
     ∷ rewrite-row (0x21 ∷ []) sheet-bytes 2 (replicate sheet-bytes 170)
+    ∷ rewrite-row sheet-repeated sheet-bytes 11 (replicate sheet-bytes 170)
     -- 7: a buffer one byte short, and before the sheet's own refusals
     ∷ rewrite-row sheet-E (sheet-bytes - 1) 7 (replicate (sheet-bytes - 1) 170)
     ∷ rewrite-row (0x21 ∷ []) (sheet-bytes - 1) 7 (replicate (sheet-bytes - 1) 170)

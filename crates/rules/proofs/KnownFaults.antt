@@ -8,8 +8,8 @@ use lib.ListN.{replicate}
 use Rattle.rules.specs.declared.Certificate.{Certificate as StoredCertificate}
 use Rattle.rules.specs.declared.Path.{Path as StoredPath}
 use Rattle.rules.specs.Limits.{certificates, listed}
-use Rattle.rules.specs.Faults.{edition-fault, n-fault, count-fault, present-fault, policy-fault, user-fault, listed-fault, no-fault, _or-else_, path-fault}
-use Rattle.rules.proofs.Notation.{from, stored-plain, stored-path}
+use Rattle.rules.specs.Faults.{edition-fault, n-fault, count-fault, present-fault, policy-fault, pair-fault, user-fault, listed-fault, no-fault, _or-else_, path-fault}
+use Rattle.rules.proofs.Notation.{_to_, from, stored-plain, stored-path}
 
 -- a field's fault and the number expected
 pub record FieldRow : Type 0 where
@@ -21,7 +21,7 @@ f is k = record { fault = f; number = k }
 
 infix 30 _is_
 unfoldable pub field-rows : List FieldRow
-unfolding _is_ edition-fault n-fault count-fault present-fault policy-fault user-fault listed-fault no-fault _or-else_
+unfolding _is_ _to_ edition-fault n-fault count-fault present-fault policy-fault pair-fault user-fault listed-fault no-fault _or-else_
 field-rows =
     -- "edition is not 1"
     (edition-fault 0 is 2)
@@ -53,6 +53,21 @@ field-rows =
     ∷ (listed-fault (6 ∷ 7 ∷ []) 8 is 0)
     -- "4 before 5"
     ∷ (listed-fault (0 ∷ []) 0 is 4)
+    -- "a pair repeated within one certificate": the first, the middle and the last of those before
+    ∷ (pair-fault (6 to 7 ∷ 8 to 9 ∷ 10 to 11 ∷ []) 6 7 is 11)
+    ∷ (pair-fault (6 to 7 ∷ 8 to 9 ∷ 10 to 11 ∷ []) 8 9 is 11)
+    ∷ (pair-fault (6 to 7 ∷ 8 to 9 ∷ 10 to 11 ∷ []) 10 11 is 11)
+    -- a pair of the same issuer and another subject, and one of the same subject and another issuer
+    ∷ (pair-fault (6 to 7 ∷ 8 to 9 ∷ []) 6 9 is 0)
+    ∷ (pair-fault (6 to 7 ∷ []) 6 8 is 0)
+    ∷ (pair-fault (6 to 7 ∷ []) 8 7 is 0)
+    -- a pair with its policies exchanged, a pair of one policy, and the first pair
+    ∷ (pair-fault (6 to 7 ∷ []) 7 6 is 0)
+    ∷ (pair-fault (6 to 7 ∷ []) 6 6 is 0)
+    ∷ (pair-fault [] 6 7 is 0)
+    -- "after 4": a subject 0
+    ∷ (pair-fault [] 6 0 is 4)
+    ∷ (pair-fault (6 to 0 ∷ []) 6 0 is 4)
     -- a flag and a skip value have no fault
     ∷ (no-fault 0 is 0)
     ∷ (no-fault 255 is 0)
@@ -97,8 +112,10 @@ rows =
     row 1 (30 ∷ []) 1 (good ∷ []) 0
     -- no fault: "a count of 0 policies or pairs being absence"
     ∷ row 0 [] 1 (stored-plain 0 [] 0 [] [] ∷ []) 0
-    -- no fault: repeats among user policies and pairs, and of a policy in two certificates
-    ∷ row 2 (30 ∷ 30 ∷ []) 2 (stored-plain 1 (5 ∷ []) 2 (5 ∷ 5 ∷ []) (6 ∷ 6 ∷ []) ∷ good ∷ []) 0
+    -- no fault: repeats among user policies, and of a policy and a pair in two certificates
+    ∷ row 2 (30 ∷ 30 ∷ []) 2 (good ∷ good ∷ []) 0
+    -- no fault: pairs of the same issuer and another subject, of the same subject and another issuer, and with their policies exchanged
+    ∷ row 0 [] 1 (stored-plain 0 [] 4 (5 ∷ 5 ∷ 8 ∷ 6 ∷ []) (6 ∷ 7 ∷ 6 ∷ 5 ∷ []) ∷ []) 0
     -- no fault: as many certificates as a path may have, and full lists
     ∷ row listed full certificates (replicate certificates (stored-plain listed full listed full full)) 0
     -- no certificate
@@ -125,8 +142,24 @@ rows =
     -- a policy repeated, and one not next to itself
     ∷ row 0 [] 1 (stored-plain 2 (5 ∷ 5 ∷ []) 0 [] [] ∷ []) 5
     ∷ row 0 [] 1 (stored-plain 3 (5 ∷ 6 ∷ 5 ∷ []) 0 [] [] ∷ []) 5
+    -- a pair repeated, next to itself, as the last pair, and not the first one
+    ∷ row 0 [] 1 (stored-plain 0 [] 2 (5 ∷ 5 ∷ []) (6 ∷ 6 ∷ []) ∷ []) 11
+    ∷ row 0 [] 1 (stored-plain 0 [] 3 (5 ∷ 7 ∷ 5 ∷ []) (6 ∷ 8 ∷ 6 ∷ []) ∷ []) 11
+    ∷ row 0 [] 1 (stored-plain 0 [] 3 (7 ∷ 5 ∷ 5 ∷ []) (8 ∷ 6 ∷ 6 ∷ []) ∷ []) 11
+    -- a pair repeated that names anyPolicy
+    ∷ row 0 [] 2 (stored-plain 1 (70 ∷ []) 2 (1 ∷ 1 ∷ []) (71 ∷ 71 ∷ []) ∷ good ∷ []) 11
+    -- the pair of 0 and 0 twice
+    ∷ row 0 [] 1 (stored-plain 0 [] 2 (0 ∷ 0 ∷ []) (0 ∷ 0 ∷ []) ∷ []) 4
+    -- two faults: a subject 0 before a pair repeated after it, and a pair repeated before an issuer and a subject 0 after it
+    ∷ row 0 [] 1 (stored-plain 0 [] 3 (5 ∷ 5 ∷ 5 ∷ []) (0 ∷ 6 ∷ 6 ∷ []) ∷ []) 4
+    ∷ row 0 [] 1 (stored-plain 0 [] 3 (5 ∷ 5 ∷ 0 ∷ []) (6 ∷ 6 ∷ 7 ∷ []) ∷ []) 11
+    ∷ row 0 [] 1 (stored-plain 0 [] 3 (5 ∷ 5 ∷ 7 ∷ []) (6 ∷ 6 ∷ 0 ∷ []) ∷ []) 11
+    -- two faults: the policies before a pair repeated, and it before the next certificate
+    ∷ row 0 [] 1 (stored-plain 2 (5 ∷ 5 ∷ []) 2 (5 ∷ 5 ∷ []) (6 ∷ 6 ∷ []) ∷ []) 5
+    ∷ row 0 [] 2 (stored-plain 0 [] 2 (5 ∷ 5 ∷ []) (6 ∷ 6 ∷ []) ∷ stored-plain many full 0 [] [] ∷ []) 11
     -- a fault of the last certificate
     ∷ row 0 [] 2 (good ∷ stored-plain 2 (5 ∷ 5 ∷ []) 0 [] [] ∷ []) 5
+    ∷ row 0 [] 2 (good ∷ stored-plain 0 [] 2 (5 ∷ 5 ∷ []) (6 ∷ 6 ∷ []) ∷ []) 11
     -- two faults: n before the user policies, 0 and too many
     ∷ row 1 (0 ∷ []) 0 [] 3
     ∷ row 1 (0 ∷ []) (suc certificates) (replicate certificates good) 3

@@ -6,6 +6,8 @@ use mathlib.Core.Path.{_≡_, refl}
 use Rattle.rules.specs.Limits as Limits
 use Rattle.rules.specs.Numbers as Numbers
 use Rattle.rules.specs.Paths.{any}
+use Rattle.rules.specs.Sets.{select}
+use Rattle.rules.proofs.Notation.{from}
 
 pub record Row : Type 0 where
   pub named : ℕ
@@ -43,10 +45,13 @@ rows =
     ∷ (Numbers.any-mapped is 9)
     ∷ (Numbers.user-empty is 10)
     -- "Numbers added here or later join document 01's table"
+    ∷ (Numbers.pair-repeats is 11)
     ∷ (Numbers.not-der is 13)
     ∷ (Numbers.register-full is 14)
     ∷ (Numbers.identifier-long is 15)
     ∷ (Numbers.register-bad is 20)
+    -- the judge answers one of 0 to 11
+    ∷ (Numbers.highest is 11)
     -- "1 is anyPolicy"
     ∷ (any is 1)
     ∷ []
@@ -55,3 +60,8 @@ rows =
 pub known-figures : map (λ r. r .named) rows ≡ map (λ r. r .figure) rows
 unfolding rows
 known-figures = refl
+
+-- Of the numbers from 0 to 20 the judge refuses with 1 to 7 and with 11.
+pub known-refusals : select Numbers.refuses (from 0 21) ≡ (1 ∷ 2 ∷ 3 ∷ 4 ∷ 5 ∷ 6 ∷ 7 ∷ 11 ∷ [])
+unfolding select Numbers.refuses from
+known-refusals = refl

@@ -11,7 +11,7 @@ use Rattle.rules.specs.Limits.{table, depths}
 use Rattle.rules.specs.Graph as Graph
 use Rattle.rules.specs.Tree as Tree
 use Rattle.rules.specs.Judge.{Outcome, outcome, sheet-judged, path-judged}
-use Rattle.rules.proofs.Notation.{filled, stored-plain, stored-path, sheet-A, sheet-D, sheet-E, sheet-H, sheet-K, sheet-mapped}
+use Rattle.rules.proofs.Notation.{filled, stored-plain, stored-path, sheet-A, sheet-D, sheet-E, sheet-H, sheet-K, sheet-mapped, sheet-repeated}
 
 -- what is handed over, the two tables at entry, and the outcome expected
 pub record Row (A : Type 0) : Type 0 where
@@ -36,7 +36,7 @@ unfolding row filled
 verdict x a u k i ns as′ us′ = row x a u k i (filled depths 0 ns) (filled a 0 as′) (filled u 0 us′)
 
 unfoldable pub sheet-rows : List (Row (List ℕ))
-unfolding verdict refusal row sheet-A sheet-D sheet-E sheet-H sheet-K sheet-mapped
+unfolding verdict refusal row sheet-A sheet-D sheet-E sheet-H sheet-K sheet-mapped sheet-repeated
 sheet-rows =
     -- 0 with tables of the least places: the counts, and each set first and then zeros
     verdict sheet-A table table 0 0 (1 ∷ 2 ∷ 2 ∷ []) (11 ∷ 12 ∷ []) (11 ∷ 12 ∷ [])
@@ -56,6 +56,8 @@ sheet-rows =
     ∷ refusal (0x21 ∷ []) (table + 1) table 2
     -- a refusal leaves both tables: a fill bit
     ∷ refusal (0x11 ∷ 0x02 ∷ 0x00 ∷ 0x1E ∷ 0x00 ∷ 0x1F ∷ 0x42 ∷ 0x00 ∷ 0x02 ∷ 0x01 ∷ []) table table 6
+    -- a refusal leaves both tables: a pair repeated, 11 before test 9 of the anyPolicy that it names
+    ∷ refusal sheet-repeated table (table + 1) 11
     -- 7: an authority table one place short
     ∷ refusal sheet-E (table - 1) table 7
     -- 7: a user table one place short
@@ -64,9 +66,10 @@ sheet-rows =
     ∷ refusal sheet-E (table - 1) (table - 1) 7
     -- 7: no places at all
     ∷ refusal sheet-E 0 table 7
-    -- 7 before the sheet's own refusals: empty input, and edition 2
+    -- 7 before the sheet's own refusals: empty input, edition 2, and a pair repeated
     ∷ refusal [] (table - 1) table 7
     ∷ refusal (0x21 ∷ []) table (table - 1) 7
+    ∷ refusal sheet-repeated (table - 1) table 7
     -- 7 before a verdict that fails
     ∷ refusal sheet-D table (table - 1) 7
     ∷ []
@@ -95,16 +98,18 @@ path-rows =
     -- 8 and 9: both tables and the counts are all zero
     ∷ verdict (decoded true 0 [] 1 (stored-plain 0 [] 0 [] [] ∷ [])) table (table + 1) 8 1 [] [] []
     ∷ verdict (decoded false 0 [] 2 (stored-plain 1 (70 ∷ []) 1 (1 ∷ []) (71 ∷ []) ∷ stored-plain 1 (70 ∷ []) 0 [] [] ∷ [])) (table + 1) table 9 1 [] [] []
-    -- the refusals 3, 4 and 5 leave both tables
+    -- the refusals 3, 4, 5 and 11 leave both tables
     ∷ refusal (decoded false 0 [] 0 []) table (table + 1) 3
     ∷ refusal (decoded false 1 (0 ∷ []) 1 (stored-plain 0 [] 0 [] [] ∷ [])) table (table + 1) 4
     ∷ refusal (decoded true 0 [] 1 (stored-plain 2 (5 ∷ 5 ∷ []) 0 [] [] ∷ [])) table (table + 1) 5
+    ∷ refusal (decoded true 0 [] 2 (stored-plain 1 (70 ∷ []) 2 (1 ∷ 1 ∷ []) (71 ∷ 71 ∷ []) ∷ stored-plain 1 (70 ∷ []) 0 [] [] ∷ [])) (table + 1) table 11
     -- 7: a table one place short
     ∷ refusal (decoded false 1 (1 ∷ []) 2 (stored-plain 3 (11 ∷ 12 ∷ 15 ∷ []) 2 (11 ∷ 11 ∷ []) (13 ∷ 14 ∷ []) ∷ stored-plain 3 (12 ∷ 13 ∷ 16 ∷ []) 0 [] [] ∷ [])) (table - 1) table 7
     ∷ refusal (decoded false 1 (1 ∷ []) 2 (stored-plain 3 (11 ∷ 12 ∷ 15 ∷ []) 2 (11 ∷ 11 ∷ []) (13 ∷ 14 ∷ []) ∷ stored-plain 3 (12 ∷ 13 ∷ 16 ∷ []) 0 [] [] ∷ [])) table (table - 1) 7
     -- 7 before the path's own refusals
     ∷ refusal (decoded false 0 [] 0 []) (table - 1) table 7
     ∷ refusal (decoded true 0 [] 1 (stored-plain 2 (5 ∷ 5 ∷ []) 0 [] [] ∷ [])) table (table - 1) 7
+    ∷ refusal (decoded true 0 [] 1 (stored-plain 0 [] 2 (5 ∷ 5 ∷ []) (6 ∷ 6 ∷ []) ∷ [])) table (table - 1) 7
     ∷ []
 
 -- Every decoded path gets the outcome expected, by the graph and by the tree.

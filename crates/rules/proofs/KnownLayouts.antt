@@ -14,7 +14,7 @@ use Rattle.rules.specs.Limits.{certificates, listed}
 use Rattle.rules.specs.Paths.{Path}
 use Rattle.rules.specs.Layout.{path-of, cleared}
 use Rattle.rules.specs.Sheet.{reading}
-use Rattle.rules.proofs.Notation.{_to_, certificate, plain, path, filled, stored-certificate, stored-plain, stored-path, sheet-E}
+use Rattle.rules.proofs.Notation.{_to_, certificate, plain, path, filled, stored-certificate, stored-plain, stored-path, sheet-E, sheet-repeated}
 
 -- A certificate whose unused places are zero.
 clear-certificate : Bool → ℕ → List ℕ → ℕ → List ℕ → List ℕ → Skip → Skip → Skip → StoredCertificate
@@ -86,12 +86,14 @@ pub record ReadingRow : Type 0 where
   pub reading : StoredReading
 
 unfoldable pub reading-rows : List ReadingRow
-unfolding clear-path clear-certificate clear-none sheet-E
+unfolding clear-path clear-certificate clear-none sheet-E sheet-repeated
 reading-rows =
     -- case E: "On success reader and writer answer 0", and "unused places are zero or absent after reading"
     record { bytes = sheet-E; reading = record { number = 0; path = clear-path false false false 2 (30 ∷ 31 ∷ []) 1 (clear-certificate false 1 (1 ∷ []) 0 [] [] Absent Absent Absent) clear-none } }
     -- case E with a fill bit set: the refusal's number, and the path "all cleared on refusal"
     ∷ record { bytes = 0x11 ∷ 0x02 ∷ 0x00 ∷ 0x1E ∷ 0x00 ∷ 0x1F ∷ 0x42 ∷ 0x00 ∷ 0x02 ∷ 0x01 ∷ []; reading = record { number = 6; path = clear-path false false false 0 [] 0 clear-none clear-none } }
+    -- a pair repeated: the same
+    ∷ record { bytes = sheet-repeated; reading = record { number = 11; path = clear-path false false false 0 [] 0 clear-none clear-none } }
     ∷ []
 
 -- Every sheet is answered by the reader as expected.

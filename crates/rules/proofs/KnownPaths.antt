@@ -119,12 +119,8 @@ rows =
     ∷ row false false false (1 ∷ []) (plain (11 ∷ 1 ∷ []) (11 to 12 ∷ []) ∷ plain (1 ∷ 13 ∷ []) (12 to 14 ∷ 15 to 16 ∷ []) ∷ plain (14 ∷ 16 ∷ 17 ∷ []) [] ∷ []) 0 0 (1 ∷ 2 ∷ 3 ∷ 3 ∷ []) (11 ∷ 15 ∷ 17 ∷ []) (11 ∷ 15 ∷ 17 ∷ [])
     -- each issuer: 50 and 60 are both added, and 51 stands under both
     ∷ row false false false (1 ∷ []) (plain (1 ∷ []) (50 to 51 ∷ 60 to 51 ∷ []) ∷ plain (51 ∷ []) [] ∷ []) 0 0 (1 ∷ 2 ∷ 1 ∷ []) (50 ∷ 60 ∷ []) (50 ∷ 60 ∷ [])
-    -- a pair twice, listed
-    ∷ row false false false (1 ∷ []) (plain (11 ∷ []) (11 to 12 ∷ 11 to 12 ∷ []) ∷ plain (12 ∷ []) [] ∷ []) 0 0 (1 ∷ 1 ∷ 1 ∷ []) (11 ∷ []) (11 ∷ [])
-    -- a pair twice, by the anyPolicy rule
-    ∷ row false false false (1 ∷ []) (plain (11 ∷ []) (11 to 12 ∷ 11 to 12 ∷ []) ∷ plain (1 ∷ []) [] ∷ []) 0 0 (1 ∷ 1 ∷ 1 ∷ []) (11 ∷ []) (11 ∷ [])
-    -- a pair twice, added under anyPolicy
-    ∷ row false false false (1 ∷ []) (plain (1 ∷ []) (50 to 51 ∷ 50 to 51 ∷ []) ∷ plain (51 ∷ []) [] ∷ []) 0 0 (1 ∷ 1 ∷ 1 ∷ []) (50 ∷ []) (50 ∷ [])
+    -- an issuer of two pairs, added under anyPolicy once and expecting both subjects
+    ∷ row false false false (1 ∷ []) (plain (1 ∷ []) (50 to 51 ∷ 50 to 52 ∷ []) ∷ plain (51 ∷ 52 ∷ []) [] ∷ []) 0 0 (1 ∷ 1 ∷ 2 ∷ []) (50 ∷ []) (50 ∷ [])
     -- policy_mapping 0: node 11 goes, and 12 stays
     ∷ row true false false (1 ∷ []) (plain (11 ∷ 12 ∷ []) (11 to 13 ∷ []) ∷ plain (11 ∷ 12 ∷ 13 ∷ []) [] ∷ []) 0 0 (1 ∷ 1 ∷ 1 ∷ []) (12 ∷ []) (12 ∷ [])
     -- policy_mapping 0: node 11 goes, listed after 12

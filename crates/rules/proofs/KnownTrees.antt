@@ -56,9 +56,8 @@ rows =
     ∷ row (plain (11 ∷ 12 ∷ []) (11 to 14 ∷ 12 to 14 ∷ []) ∷ plain (1 ∷ []) [] ∷ []) 2 ((1 ∷ []) ∷ (11 ∷ 12 ∷ []) ∷ (14 ∷ 14 ∷ []) ∷ [])
     -- the anyPolicy rule gives no child that the node has
     ∷ row (plain (11 ∷ []) (11 to 12 ∷ 11 to 13 ∷ []) ∷ plain (12 ∷ 1 ∷ []) [] ∷ []) 2 ((1 ∷ []) ∷ (11 ∷ []) ∷ (12 ∷ 13 ∷ []) ∷ [])
-    -- a pair twice counts once
-    ∷ row (plain (11 ∷ []) (11 to 12 ∷ 11 to 12 ∷ []) ∷ plain (1 ∷ []) [] ∷ []) 2 ((1 ∷ []) ∷ (11 ∷ []) ∷ (12 ∷ []) ∷ [])
-    ∷ row (plain (1 ∷ []) (50 to 51 ∷ 50 to 51 ∷ []) ∷ plain (51 ∷ []) [] ∷ []) 2 ((1 ∷ []) ∷ (50 ∷ []) ∷ (51 ∷ []) ∷ [])
+    -- an issuer of two pairs is added under anyPolicy once
+    ∷ row (plain (1 ∷ []) (50 to 51 ∷ 50 to 52 ∷ []) ∷ plain (51 ∷ 52 ∷ []) [] ∷ []) 2 ((1 ∷ []) ∷ (50 ∷ []) ∷ (51 ∷ 52 ∷ []) ∷ [])
     -- a mapping adds a child to the anyPolicy node alone
     ∷ row (plain (11 ∷ 1 ∷ []) [] ∷ plain (11 ∷ 1 ∷ []) (50 to 51 ∷ []) ∷ plain (11 ∷ 51 ∷ []) [] ∷ []) 3 ((1 ∷ []) ∷ (11 ∷ 1 ∷ []) ∷ (11 ∷ 50 ∷ []) ∷ (11 ∷ 51 ∷ []) ∷ [])
     -- the intersection: 11 goes with all below it, and a childless node above it

@@ -32,8 +32,13 @@ listing : ℕ → ℕ → StoredPath
 unfolding stored-path stored-plain
 listing p q = stored-path false false false 0 [] 1 (stored-plain 2 (p ∷ q ∷ []) 0 [] [] ∷ [])
 
+-- a path of one certificate with two pairs of the issuer 5
+mapping : ℕ → ℕ → StoredPath
+unfolding stored-path stored-plain
+mapping s t = stored-path false false false 0 [] 1 (stored-plain 0 [] 2 (5 ∷ 5 ∷ []) (s ∷ t ∷ []) ∷ [])
+
 unfoldable pub rows : List Row
-unfolding row old filled case-E-with listing sheet-E
+unfolding row old filled case-E-with listing mapping sheet-E
 rows =
     -- a buffer one byte short: 7, length 0, the buffer unchanged
     row (case-E-with 2 1) (old (sheet-bytes - 1)) 7 0 (old (sheet-bytes - 1))
@@ -42,14 +47,20 @@ rows =
     -- 7 before the path's own refusals
     ∷ row (case-E-with 2 0) (old (sheet-bytes - 1)) 7 0 (old (sheet-bytes - 1))
     ∷ row (listing 5 5) (old (sheet-bytes - 1)) 7 0 (old (sheet-bytes - 1))
+    ∷ row (mapping 6 6) (old (sheet-bytes - 1)) 7 0 (old (sheet-bytes - 1))
     -- a buffer of the longest sheet's bytes: 0, the sheet first, and every later byte unchanged
     ∷ row (case-E-with 2 1) (old sheet-bytes) 0 10 (filled sheet-bytes 170 sheet-E)
     -- a longer buffer
     ∷ row (case-E-with 2 1) (old (sheet-bytes + 2)) 0 10 (filled (sheet-bytes + 2) 170 sheet-E)
-    -- the refusals 3, 4 and 5: length 0, the buffer unchanged
+    -- pairs of the same issuer and another subject
+    ∷ row (mapping 6 7) (old sheet-bytes) 0 12 (filled sheet-bytes 170 (0x11 ∷ 0x00 ∷ 0x22 ∷ 0x00 ∷ 0x05 ∷ 0x00 ∷ 0x06 ∷ 0x00 ∷ 0x05 ∷ 0x00 ∷ 0x07 ∷ 0x00 ∷ []))
+    -- the refusals 3, 4, 5 and 11: length 0, the buffer unchanged
     ∷ row (case-E-with (suc listed) 1) (old sheet-bytes) 3 0 (old sheet-bytes)
     ∷ row (listing 5 0) (old sheet-bytes) 4 0 (old sheet-bytes)
     ∷ row (listing 5 5) (old sheet-bytes) 5 0 (old sheet-bytes)
+    ∷ row (mapping 6 6) (old sheet-bytes) 11 0 (old sheet-bytes)
+    -- a subject 0 before 11
+    ∷ row (mapping 0 0) (old sheet-bytes) 4 0 (old sheet-bytes)
     -- two faults: the user policies before the policies
     ∷ row (stored-path false false false 1 (0 ∷ []) 1 (stored-plain 2 (5 ∷ 5 ∷ []) 0 [] [] ∷ [])) (old sheet-bytes) 4 0 (old sheet-bytes)
     ∷ []

@@ -1,6 +1,6 @@
 -- The refusals of one field's own value, 0 where it has none, and of a path handed over decoded.
 use Prim.Native.Nat.{ℕ, zero, suc}
-use mathlib.Core.Bool.{_||_}
+use mathlib.Core.Bool.{Bool, _&&_, _||_}
 use mathlib.Core.List.{List, [], _∷_, _++_}
 use lib.Dec.{eqb, ltb}
 use lib.ListN.{take}
@@ -8,7 +8,7 @@ use Rattle.rules.specs.declared.Certificate.{Certificate as StoredCertif
 use Rattle.rules.specs.declared.Path.{Path as StoredPath}
 use Rattle.rules.specs.Limits as Limits
 use Rattle.rules.specs.Numbers as Numbers
-use Rattle.rules.specs.Sets.{pick, _∈_}
+use Rattle.rules.specs.Sets.{pick, _∈_, some-of}
 use Rattle.rules.specs.Paths.{Mapping}
 use Rattle.rules.specs.Layout.{certificate-of, path-of}
 
@@ -47,6 +47,16 @@ unfoldable pub listed-fault : List ℕ → ℕ → ℕ
 unfolding pick _∈_
 listed-fault before p = pick (eqb p 0) Numbers.policy-zero (pick (p ∈ before) Numbers.policy-repeats 0)
 
+-- whether the pair of the issuer D and the subject S is one of the pairs
+unfoldable pub pair-among : ℕ → ℕ → List Mapping → Bool
+unfolding some-of
+pair-among D S ms = some-of (λ m. eqb D (m .issuer) && eqb S (m .subject)) ms
+
+-- the subject S of a pair whose issuer is D, after the pairs in `before`: "a pair repeated within one certificate is refused with 11, when its second subject policy is read, after 4"
+unfoldable pub pair-fault : List Mapping → ℕ → ℕ → ℕ
+unfolding pick pair-among
+pair-fault before D S = pick (eqb S 0) Numbers.policy-zero (pick (pair-among D S before) Numbers.pair-repeats 0)
+
 -- a field that has no fault of its own
 unfoldable pub no-fault : ℕ → ℕ
 no-fault v = 0
@@ -62,10 +72,16 @@ unfolding _or-else_
 policies-fault fault before [] = 0
 policies-fault fault before (p ∷ ps) = fault before p or-else policies-fault fault (before ++ (p ∷ [])) ps
 
+-- pairs one after another, after those in `before`: the issuer and then the subject
+unfoldable pub pairs-fault : List Mapping → List Mapping → ℕ
+unfolding _or-else_ policy-fault pair-fault
+pairs-fault before [] = 0
+pairs-fault before (m ∷ ms) =
+    policy-fault (m .issuer) or-else pair-fault before (m .issuer) (m .subject) or-else pairs-fault (before ++ (m ∷ [])) ms
+
 unfoldable pub mappings-fault : List Mapping → ℕ
-unfolding _or-else_ policy-fault
-mappings-fault [] = 0
-mappings-fault (m ∷ ms) = policy-fault (m .issuer) or-else policy-fault (m .subject) or-else mappings-fault ms
+unfolding pairs-fault
+mappings-fault ms = pairs-fault [] ms
 
 unfoldable pub certificate-fault : StoredCertificate → ℕ
 unfolding _or-else_ count-fault policies-fault listed-fault mappings-fault certificate-of
@@ -80,7 +96,7 @@ unfolding _or-else_ certificate-fault
 certificates-fault [] = 0
 certificates-fault (c ∷ cs) = certificate-fault c or-else certificates-fault cs
 
--- "A path handed over decoded is refused by 3, 4 and 5 in the sheet's field order"
+-- "A path handed over decoded is refused by 3, 4 and 5 in the sheet's field order", and by 11
 unfoldable pub path-fault : StoredPath → ℕ
 unfolding _or-else_ n-fault count-fault policies-fault user-fault certificates-fault path-of
 path-fault p =

@@ -1,5 +1,8 @@
--- The numbers of document 01's table, "What the judge says", and those that document 02 adds to it. 1 to 7 and 13 upward are refusals, the others verdicts.
+-- The numbers of document 01's table, "What the judge says", and those that document 02 adds to it. Which of them the judge refuses with says `refuses`;
+-- 13 upward are refusals of the extensions' reader, and the others verdicts.
 use Prim.Native.Nat.{ℕ}
+use mathlib.Core.Bool.{Bool, _&&_, _||_}
+use lib.Dec.{eqb, leb}
 
 -- path valid for policy
 abbrev pub valid : ℕ
@@ -45,6 +48,10 @@ any-mapped = 9
 abbrev pub user-empty : ℕ
 user-empty = 10
 
+-- a pair repeats within one certificate's mappings
+abbrev pub pair-repeats : ℕ
+pair-repeats = 11
+
 -- anything but DER of the stated type
 abbrev pub not-der : ℕ
 not-der = 13
@@ -60,3 +67,11 @@ identifier-long = 15
 -- the register is not one
 abbrev pub register-bad : ℕ
 register-bad = 20
+
+-- demand 1: the judge answers one of 0 to this number
+abbrev pub highest : ℕ
+highest = pair-repeats
+
+-- "1 to 7 are refusals, the others verdicts"; 11 "is a refusal like 1 to 7 in all it leaves and prints"
+unfoldable pub refuses : ℕ → Bool
+refuses n = (leb sheet-ends n && leb n table-short) || eqb n pair-repeats

@@ -1,4 +1,4 @@
--- The sheet: "Bit-packed fields, most significant bit first, no gaps". How it is read, with refusals 1 to 6, and how it is written.
+-- The sheet: "Bit-packed fields, most significant bit first, no gaps". How it is read, with refusals 1 to 6 and 11, and how it is written.
 use Prim.Native.Nat.{ℕ, zero, suc, _+_, _-_, _*_}
 use mathlib.Core.Bool.{Bool, true, false, _&&_}
 use mathlib.Core.List.{List, [], _∷_, _++_, map}
@@ -15,7 +15,7 @@ use Rattle.rules.specs.Sets.{pick, each}
 use Rattle.rules.specs.Bits.{field, bits-of, packed}
 use Rattle.rules.specs.Paths.{Mapping, Certificate, Path}
 use Rattle.rules.specs.Layout.{path-of, place-path, no-path}
-use Rattle.rules.specs.Faults.{edition-fault, n-fault, count-fault, present-fault, policy-fault, user-fault, listed-fault, no-fault, path-fault}
+use Rattle.rules.specs.Faults.{edition-fault, n-fault, count-fault, present-fault, policy-fault, pair-fault, user-fault, listed-fault, no-fault, path-fault}
 
 -- what reading gives: a refusal's number, or a value and the bit position after it
 pub data Read (A : Type 0) : Type 0 where
@@ -53,11 +53,11 @@ read-policies s fault (suc m) before at =
 
 -- m pairs more, "16 and 16, issuer first", after those in `before`
 unfoldable pub read-mappings : List ℕ → ℕ → List Mapping → ℕ → Read (List Mapping)
-unfolding read-field _then_ policy-fault
+unfolding read-field _then_ policy-fault pair-fault
 read-mappings s zero before at = read before at
 read-mappings s (suc m) before at =
     read-field s 16 policy-fault at then λ D at.
-    read-field s 16 policy-fault at then λ S at.
+    read-field s 16 (pair-fault before D) at then λ S at.
     read-mappings s m (before ++ (record { issuer = D; subject = S } ∷ [])) at
 
 -- "policies present, 1 bit, and if set a count (5 bits) and the policies"

@@ -28,7 +28,7 @@ pub const SHEET_BYTES: usize = (SHEET_BITS + 7) / 8;
 // The policy that stands for every other.
 pub const ANY: u16 = 1;
 
-// The numbers of document 01's table, with those of document 02, under the names of specs/Numbers. 1 to 7 and 13 upward are refusals, the others verdicts.
+// The numbers of document 01's table, with those of document 02, under the names of specs/Numbers.
 pub const VALID: u8 = 0;
 
 pub const SHEET_ENDS: u8 = 1;
@@ -50,6 +50,8 @@ pub const NO_GRAPH: u8 = 8;
 pub const ANY_MAPPED: u8 = 9;
 
 pub const USER_EMPTY: u8 = 10;
+
+pub const PAIR_REPEATS: u8 = 11;
 
 pub const NOT_DER: u8 = 13;
 

@@ -16,7 +16,7 @@ use Rattle.rules.specs.Numbers as Numbers
 use Rattle.rules.specs.Sets.{pick}
 use Rattle.rules.specs.Bits.{bit, field}
 use Rattle.rules.specs.Paths.{Mapping, Certificate, Path}
-use Rattle.rules.specs.Faults.{edition-fault, n-fault, count-fault, present-fault, policy-fault, user-fault, listed-fault, no-fault}
+use Rattle.rules.specs.Faults.{edition-fault, n-fault, count-fault, present-fault, policy-fault, pair-fault, user-fault, listed-fault, no-fault}
 use Rattle.rules.specs.Sheet.{Read, refused, read, _then_, checked, read-field, read-flag, read-policies, read-mappings, read-listed, read-mapped, read-skip, read-certificate, read-certificates, read-path, ends-at, read-sheet}
 use Rattle.sheet.proofs.Bits.{digit, digit-number, number-digit, bit-binary}
 use Rattle.sheet.proofs.Faults.{n-passed, present-passed, count-passed}
@@ -81,7 +81,7 @@ module _ (s t : List ℕ) (m : ℕ) (long-s : m ≤ 8 * length s) (long-t : m �
   mappings-alike zero before k h = give before k (omega arith)
   mappings-alike (suc n) before k h =
       field-then _ 16 policy-fault k _ _ (omega arith)
-      (λ D y. field-then _ 16 policy-fault (k + 16) _ _ (omega arith)
+      (λ D y. field-then _ 16 (pair-fault before D) (k + 16) _ _ (omega arith)
       (λ S z. alike-up (omega arith) (mappings-alike n (before ++ (record { issuer = D; subject = S } ∷ [])) (k + 16 + 16) (omega arith))))
 
   -- what a flag says is present, after it

@@ -14,7 +14,7 @@ use Rattle.rules.specs.Numbers as Numbers
 use Rattle.rules.specs.Sets.{pick, _∈_}
 use Rattle.rules.specs.Bits.{field}
 use Rattle.rules.specs.Paths.{Mapping, Certificate, Path}
-use Rattle.rules.specs.Faults.{edition-fault, n-fault, count-fault, present-fault, policy-fault, user-fault, listed-fault, no-fault}
+use Rattle.rules.specs.Faults.{edition-fault, n-fault, count-fault, present-fault, policy-fault, pair-among, pair-fault, user-fault, listed-fault, no-fault}
 use Rattle.rules.specs.Sheet.{Read, refused, read, _then_, checked, read-field, read-flag, read-policies, read-mappings, read-listed, read-mapped, read-skip, read-certificate, read-certificates, read-path, ends-at, read-sheet, _#_, flag}
 use Rattle.laws.proofs.Sets.{by-cases, or-false}
 use Rattle.sheet.proofs.Fields.{Holds, field-lt}
@@ -84,6 +84,10 @@ listed-never : (before : List ℕ) (p : ℕ) → listed-fault before p ≡ Numbe
 unfolding listed-fault
 listed-never before p = neither-number (eqb p 0) (λ e. omega (arith, e)) (neither-number (p ∈ before) (λ e. omega (arith, e)) (λ e. omega (arith, e)))
 
+pair-never : (before : List Mapping) (D S : ℕ) → pair-fault before D S ≡ Numbers.wrong-count → ⊥
+unfolding pair-fault
+pair-never before D S = neither-number (eqb S 0) (λ e. omega (arith, e)) (neither-number (pair-among D S before) (λ e. omega (arith, e)) (λ e. omega (arith, e)))
+
 module _ (s : List ℕ) where
   -- a part that refuses by 3 for such a count alone
   abbrev Sound3 : {A : Type 0} → Read A → Type 0
@@ -124,7 +128,7 @@ module _ (s : List ℕ) where
   mappings-3 zero before k = value-3 before k
   mappings-3 (suc m) before k =
       then-3 (read-field s 16 policy-fault k) _ (policy-3 k)
-      (λ D at r. then-3 (read-field s 16 policy-fault at) _ (policy-3 at) (λ S at r. mappings-3 m (before ++ (record { issuer = D; subject = S } ∷ [])) at))
+      (λ D at r. then-3 (read-field s 16 (pair-fault before D) at) _ (field-3 16 (pair-fault before D) at (λ e. absurd (pair-never before D (field s at 16) e))) (λ S at r. mappings-3 m (before ++ (record { issuer = D; subject = S } ∷ [])) at))
 
   -- a list, whose count stands after its flag
   present-3 : {A : Type 0} (k : ℕ) (next : ℕ → ℕ → Read (List A)) → ((m at : ℕ) → Sound3 (next m at))

@@ -76,7 +76,7 @@ place-parts c w = record {
   policy-count = count-passes _ (w .policy-count);
   policies = ap (λ (d : Certificate). policies-fault listed-fault [] (d .policies)) (certificate-back c) ∙ listed-accepted (c .policies) (w .no-repeats) (λ p i. w .policies p i .some);
   mapping-count = count-passes _ (w .mapping-count);
-  mappings = ap (λ (d : Certificate). mappings-fault (d .mappings)) (certificate-back c) ∙ mappings-pass (c .mappings) (λ m i. (w .mappings m i .issuer .some, w .mappings m i .subject .some));
+  mappings = ap (λ (d : Certificate). mappings-fault (d .mappings)) (certificate-back c) ∙ mappings-pass (c .mappings) (λ m i. (w .mappings m i .issuer .some, w .mappings m i .subject .some)) (w .no-pair-repeats);
 }
 
 pub placed-no-fault : (p : Path) → Writable p → path-fault (place-path p) ≡ 0
@@ -146,15 +146,17 @@ decoded-certificate c f h =
     let m = c .«mapping_count» in
     let l = count-passed n (h .policy-count) in
     let k = count-passed m (h .mapping-count) in
+    let pairs-passed = mappings-passed _ (h .mappings) in
     record {
       policy-count = omega (arith, l, used-count (c .policies) (f .policies) n l);
       policies = λ p i. record { some = listed-some _ (h .policies) p i; fits = used-fits (c .policies) (f .policies) n i };
       no-repeats = no-repeats _ (h .policies);
       mapping-count = omega (arith, k, used-count (c .issuers) (f .issuers) m k, length-pairs (take m (c .issuers)) (take m (c .subjects)));
       mappings = λ x i.
-          let s = mappings-passed _ (h .mappings) x i in
+          let s = pairs-passed .0 x i in
           let r = In-pairs (take m (c .issuers)) (take m (c .subjects)) x i in
           record { issuer = record { some = s .0; fits = used-fits (c .issuers) (f .issuers) m (r .0) }; subject = record { some = s .1; fits = used-fits (c .subjects) (f .subjects) m (r .1) } };
+      no-pair-repeats = pairs-passed .1;
       require-explicit = f .require-explicit;
       inhibit-mapping = f .inhibit-mapping;
       inhibit-any = f .inhibit-any;

@@ -15,8 +15,9 @@ use Rattle.rules.specs.Numbers as Numbers
 use Rattle.rules.specs.Sets.{pick, _∈_}
 use Rattle.rules.specs.Paths.{Mapping}
 use Rattle.rules.specs.Layout.{certificate-of, path-of}
-use Rattle.rules.specs.Faults.{edition-fault, n-fault, count-fault, present-fault, policy-fault, listed-fault, user-fault, _or-else_, policies-fault, mappings-fault, certificate-fault, certificates-fault, path-fault}
+use Rattle.rules.specs.Faults.{edition-fault, n-fault, count-fault, present-fault, policy-fault, pair-among, pair-fault, listed-fault, user-fault, _or-else_, policies-fault, pairs-fault, mappings-fault, certificate-fault, certificates-fault, path-fault}
 use Rattle.laws.proofs.Sets.{by-cases, clash, is-false, or-none, or-left, or-right, or-false, In, here, there, In-cons, In-mem, mem-append, Unique}
+use Rattle.sheet.proofs.Writable.{Each, New}
 
 -- a fault that is none because its test fails
 passed : (b : Bool) (k : ℕ) → 1 ≤ k → pick b k 0 ≡ 0 → b ≡ false
@@ -170,19 +171,69 @@ pub listed-accepted : (ps : List ℕ) → Unique ps → ((p : ℕ) → In p ps �
 unfolding _∈_
 listed-accepted ps u h = listed-after [] ps u (λ p i. (h p i, refl))
 
-pub mappings-passed : (ms : List Mapping) → mappings-fault ms ≡ 0 → (m : Mapping) → In m ms → (1 ≤ m .issuer) × (1 ≤ m .subject)
-unfolding mappings-fault
-mappings-passed [] e m i = elim i [ ]
-mappings-passed (x ∷ xs) e m i =
-    let r = neither (policy-fault (x .issuer)) (policy-fault (x .subject) or-else mappings-fault xs) e in
-    let q = neither (policy-fault (x .subject)) (mappings-fault xs) (r .1) in
-    ⊎-elim (λ h. subst (λ m. (1 ≤ m .issuer) × (1 ≤ m .subject)) (sym h) (policy-passed (x .issuer) (r .0), policy-passed (x .subject) (q .0))) (λ j. mappings-passed xs (q .1) m j) (In-cons i)
+-- each of a list, by its place
 
-pub mappings-pass : (ms : List Mapping) → ((m : Mapping) → In m ms → (1 ≤ m .issuer) × (1 ≤ m .subject)) → mappings-fault ms ≡ 0
+pub in-each : {A : Type 0} (P : A → Type 0) (before xs : List A) → ((a : A) → In a xs → P a) → Each (λ before. P) before xs
+in-each P before [] h = tt
+in-each P before (x ∷ xs) h = (h x here, in-each P (before ++ (x ∷ [])) xs (λ a i. h a (there i)))
+
+pub each-in : {A : Type 0} (P : A → Type 0) (before xs : List A) → Each (λ before. P) before xs → (a : A) → In a xs → P a
+each-in P before [] o a i = elim i [ ]
+each-in P before (x ∷ xs) o a i = ⊎-elim (λ e. subst P (sym e) (o .0)) (λ j. each-in P (before ++ (x ∷ [])) xs (o .1) a j) (In-cons i)
+
+-- the pairs of a certificate, each after those before it
+
+abbrev pub SomePair : Mapping → Type 0
+SomePair m = (1 ≤ m .issuer) × (1 ≤ m .subject)
+
+abbrev pub GoodPair : List Mapping → Mapping → Type 0
+GoodPair before m = SomePair m × New before m
+
+pub good-pairs : (before ms : List Mapping) → ((m : Mapping) → In m ms → SomePair m) → Each New before ms → Each GoodPair before ms
+good-pairs before [] h o = tt
+good-pairs before (x ∷ xs) h o = ((h x here, o .0), good-pairs (before ++ (x ∷ [])) xs (λ m i. h m (there i)) (o .1))
+
+pub pairs-good : (before ms : List Mapping) → Each GoodPair before ms → ((m : Mapping) → In m ms → SomePair m) × Each New before ms
+pairs-good before [] o = (λ m i. elim i [ ], tt)
+pairs-good before (x ∷ xs) o =
+    let r = pairs-good (before ++ (x ∷ [])) xs (o .1) in
+    (λ m i. ⊎-elim (λ e. subst SomePair (sym e) (o .0 .0)) (λ j. r .0 m j) (In-cons i), (o .0 .1, r .1))
+
+pub pair-passed : (before : List Mapping) (D S : ℕ) → pair-fault before D S ≡ 0 → (1 ≤ S) × (pair-among D S before ≡ false)
+unfolding pair-fault pick
+pair-passed before D S e = go (eqb S 0) refl e
+  where
+    go : (b : Bool) → eqb S 0 ≡ b → pick b Numbers.policy-zero (pick (pair-among D S before) Numbers.pair-repeats 0) ≡ 0 → (1 ≤ S) × (pair-among D S before ≡ false)
+    go true z e = absurd (omega (arith, e))
+    go false z e = let n = eqb-false S 0 z in (omega arith, passed _ Numbers.pair-repeats (omega arith) e)
+
+pub pair-passes : (before : List Mapping) (D S : ℕ) → 1 ≤ S → pair-among D S before ≡ false → pair-fault before D S ≡ 0
+unfolding pair-fault
+pair-passes before D S h n = pick-false _ _ _ (ne-eqb S 0 (λ e. omega arith)) ∙ pick-false _ _ _ n
+
+pairs-each : (before ms : List Mapping) → pairs-fault before ms ≡ 0 → Each GoodPair before ms
+unfolding pairs-fault
+pairs-each before [] e = tt
+pairs-each before (x ∷ xs) e =
+    let r = neither (policy-fault (x .issuer)) _ e in
+    let q = neither (pair-fault before (x .issuer) (x .subject)) _ (r .1) in
+    let s = pair-passed before (x .issuer) (x .subject) (q .0) in
+    (((policy-passed (x .issuer) (r .0), s .0), s .1), pairs-each (before ++ (x ∷ [])) xs (q .1))
+
+each-pairs : (before ms : List Mapping) → Each GoodPair before ms → pairs-fault before ms ≡ 0
+unfolding pairs-fault
+each-pairs before [] o = refl
+each-pairs before (x ∷ xs) o =
+    both _ _ (policy-passes (x .issuer) (o .0 .0 .0))
+    (both _ _ (pair-passes before (x .issuer) (x .subject) (o .0 .0 .1) (o .0 .1)) (each-pairs (before ++ (x ∷ [])) xs (o .1)))
+
+pub mappings-passed : (ms : List Mapping) → mappings-fault ms ≡ 0 → ((m : Mapping) → In m ms → SomePair m) × Each New [] ms
 unfolding mappings-fault
-mappings-pass [] h = refl
-mappings-pass (x ∷ xs) h =
-    both _ _ (policy-passes (x .issuer) (h x here .0)) (both _ _ (policy-passes (x .subject) (h x here .1)) (mappings-pass xs (λ m i. h m (there i))))
+mappings-passed ms e = pairs-good [] ms (pairs-each [] ms e)
+
+pub mappings-pass : (ms : List Mapping) → ((m : Mapping) → In m ms → SomePair m) → Each New [] ms → mappings-fault ms ≡ 0
+unfolding mappings-fault
+mappings-pass ms h o = each-pairs [] ms (good-pairs [] ms h o)
 
 -- the parts of a decoded certificate's fault
 pub record CertificateParts (c : StoredCertificate) : Type 0 where

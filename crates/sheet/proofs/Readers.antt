@@ -15,10 +15,11 @@ use Rattle.rules.specs.Numbers as Numbers
 use Rattle.rules.specs.Sets.{pick, each}
 use Rattle.rules.specs.Bits.{field}
 use Rattle.rules.specs.Paths.{Mapping}
-use Rattle.rules.specs.Faults.{present-fault, policy-fault, listed-fault, no-fault, policies-fault}
+use Rattle.rules.specs.Faults.{present-fault, policy-fault, pair-fault, listed-fault, no-fault, policies-fault}
 use Rattle.rules.specs.Sheet.{Read, refused, read, _then_, checked, read-field, read-flag, read-policies, read-mappings, read-listed, read-mapped, read-skip, Field, _#_, flag, policy-fields, listed-fields, mapping-fields, mapped-fields, skip-fields}
 use Rattle.laws.proofs.Sets.{by-cases}
-use Rattle.sheet.proofs.Faults.{both, neither, policy-passed, policy-passes, present-passed, present-passes}
+use Rattle.sheet.proofs.Writable.{Each}
+use Rattle.sheet.proofs.Faults.{both, neither, policy-passed, policy-passes, pair-passed, pair-passes, present-passed, present-passes, GoodPair}
 use Rattle.sheet.proofs.Fields.{Holds, Fit, holds-append, holds-split, holds-fit, field-lt}
 
 -- what reading gives, taken apart
@@ -144,11 +145,6 @@ unfolding _then_
 loop step zero before at = read before at
 loop step (suc m) before at = step before at then λ a at. loop step m (before ++ (a ∷ [])) at
 
--- each of a list holds `ok`, after those before it
-abbrev pub Each : {A : Type 0} → (List A → A → Type 0) → List A → List A → Type 0
-Each ok before [] = Unit {0}
-Each ok before (x ∷ xs) = ok before x × Each ok (before ++ (x ∷ [])) xs
-
 pub record Looped {A : Type 0} (s : List ℕ) (fs : A → List Field) (ok : List A → A → Type 0) (m : ℕ) (before : List A) (k : ℕ) (ys : List A) (e : ℕ) : Type 0 where
   pub more : List A
   pub all : ys ≡ before ++ more
@@ -221,59 +217,57 @@ reads-policies s fault m =
 
 -- mapping pairs
 
-abbrev read-pair : List ℕ → ℕ → Read Mapping
-read-pair s at =
+abbrev read-pair : List ℕ → List Mapping → ℕ → Read Mapping
+read-pair s before at =
     read-field s 16 policy-fault at then λ D at.
-    read-field s 16 policy-fault at then λ S at.
+    read-field s 16 (pair-fault before D) at then λ S at.
     read (record { issuer = D; subject = S }) at
 
 abbrev pair-fields : Mapping → List Field
 pair-fields m = 16 # (m .issuer) ∷ 16 # (m .subject) ∷ []
-
-abbrev pub SomePair : Mapping → Type 0
-SomePair m = (1 ≤ m .issuer) × (1 ≤ m .subject)
 
 then-assoc : {A B C : Type 0} (x : Read A) (f : A → ℕ → Read B) (g : B → ℕ → Read C) → ((x then f) then g) ≡ (x then λ a at. f a at then g)
 unfolding _then_
 then-assoc (refused k) f g = refl
 then-assoc (read a at) f g = refl
 
-mappings-loop : (s : List ℕ) (m : ℕ) (before : List Mapping) (k : ℕ) → read-mappings s m before k ≡ loop (λ before. read-pair s) m before k
+mappings-loop : (s : List ℕ) (m : ℕ) (before : List Mapping) (k : ℕ) → read-mappings s m before k ≡ loop (read-pair s) m before k
 unfolding read-mappings loop _then_
 mappings-loop s zero before k = refl
 mappings-loop s (suc m) before k =
-    (λ i. read-field s 16 policy-fault k then λ D at. read-field s 16 policy-fault at then λ S at. mappings-loop s m (before ++ (record { issuer = D; subject = S } ∷ [])) at i)
-    ∙ (λ i. read-field s 16 policy-fault k then λ D at. sym (then-assoc (read-field s 16 policy-fault at) (λ S at. read (record { issuer = D; subject = S }) at) (λ a at. loop (λ before. read-pair s) m (before ++ (a ∷ [])) at)) i)
+    (λ i. read-field s 16 policy-fault k then λ D at. read-field s 16 (pair-fault before D) at then λ S at. mappings-loop s m (before ++ (record { issuer = D; subject = S } ∷ [])) at i)
+    ∙ (λ i. read-field s 16 policy-fault k then λ D at. sym (then-assoc (read-field s 16 (pair-fault before D) at) (λ S at. read (record { issuer = D; subject = S }) at) (λ a at. loop (read-pair s) m (before ++ (a ∷ [])) at)) i)
     ∙ sym (then-assoc (read-field s 16 policy-fault k) _ _)
 
-reads-pair : (s : List ℕ) → Reads s (read-pair s) pair-fields SomePair
+reads-pair : (s : List ℕ) (before : List Mapping) → Reads s (read-pair s before) pair-fields (GoodPair before)
 unfolding _#_ Holds
-reads-pair s = record {
+reads-pair s before = record {
   forward = λ m k e o h.
-      then-read _ _ (one .forward (m .issuer) k (k + 16) (policy-passes _ (o .0)) (h .0, h .1, refl))
-      ∙ then-read _ _ (one .forward (m .subject) (k + 16) e (policy-passes _ (o .1)) (h .2));
+      then-read _ _ (reads-field s 16 policy-fault .forward (m .issuer) k (k + 16) (policy-passes _ (o .0 .0)) (h .0, h .1, refl))
+      ∙ then-read _ _ (subject (m .issuer) .forward (m .subject) (k + 16) e (pair-passes before (m .issuer) (m .subject) (o .0 .1) (o .1)) (h .2));
   back = λ m k e h.
       let r = then-back (read-field s 16 policy-fault k) _ m e h in
-      let t = then-back (read-field s 16 policy-fault (r .at)) _ m e (r .rest) in
-      let g = one .back (r .value) k (r .at) (r .first) in
-      let j = one .back (t .value) (r .at) (t .at) (t .first) in
-      subst (λ n. SomePair n × Holds s k (pair-fields n) e) (read-value (t .rest)) (
-        (policy-passed _ (g .0), policy-passed _ (j .0)),
+      let t = then-back (read-field s 16 (pair-fault before (r .value)) (r .at)) _ m e (r .rest) in
+      let g = reads-field s 16 policy-fault .back (r .value) k (r .at) (r .first) in
+      let j = subject (r .value) .back (t .value) (r .at) (t .at) (t .first) in
+      let p = pair-passed before (r .value) (t .value) (j .0) in
+      subst (λ n. GoodPair before n × Holds s k (pair-fields n) e) (read-value (t .rest)) (
+        ((policy-passed _ (g .0), p .0), p .1),
         holds-append s k (16 # (r .value) ∷ []) (r .at) (16 # (t .value) ∷ []) e (g .1) (subst (Holds s (r .at) (16 # (t .value) ∷ [])) (read-place (t .rest)) (j .1)),
       );
 }
   where
-    one : Reads s (read-field s 16 policy-fault) (λ v. 16 # v ∷ []) (λ v. policy-fault v ≡ 0)
-    one = reads-field s 16 policy-fault
+    subject : (D : ℕ) → Reads s (read-field s 16 (pair-fault before D)) (λ v. 16 # v ∷ []) (λ v. pair-fault before D v ≡ 0)
+    subject D = reads-field s 16 (pair-fault before D)
 
 mappings-each : (ms : List Mapping) → mapping-fields ms ≡ each pair-fields ms
 unfolding mapping-fields
 mappings-each ms = refl
 
-pub reads-mappings : (s : List ℕ) (m : ℕ) → Reads s (read-mappings s m []) mapping-fields (λ ms. (length ms ≡ m) × Each (λ before. SomePair) [] ms)
+pub reads-mappings : (s : List ℕ) (m : ℕ) → Reads s (read-mappings s m []) mapping-fields (λ ms. (length ms ≡ m) × Each GoodPair [] ms)
 reads-mappings s m =
     renamed s _ (read-mappings s m []) _ mapping-fields _ (mappings-loop s m []) mappings-each
-    (reads-loop s (λ before. read-pair s) pair-fields (λ before. SomePair) (λ before. reads-pair s) m)
+    (reads-loop s (read-pair s) pair-fields GoodPair (reads-pair s) m)
 
 -- "present, 1 bit, and if set" a count and as many values
 
@@ -350,10 +344,10 @@ reads-listed s =
     renamed s _ (read-listed s) _ listed-fields _ (listed-reading s) listed-counted
     (reads-counted s (λ m. read-policies s listed-fault m []) policy-fields (λ ps. policies-fault listed-fault [] ps ≡ 0) (reads-policies s listed-fault) refl)
 
-pub reads-mapped : (s : List ℕ) → Reads s (read-mapped s) mapped-fields (λ ms. (length ms ≤ Limits.listed) × Each (λ before. SomePair) [] ms)
+pub reads-mapped : (s : List ℕ) → Reads s (read-mapped s) mapped-fields (λ ms. (length ms ≤ Limits.listed) × Each GoodPair [] ms)
 reads-mapped s =
     renamed s _ (read-mapped s) _ mapped-fields _ (mapped-reading s) mapped-counted
-    (reads-counted s (λ m. read-mappings s m []) mapping-fields (Each (λ before. SomePair) []) (reads-mappings s) tt)
+    (reads-counted s (λ m. read-mappings s m []) mapping-fields (Each GoodPair []) (reads-mappings s) tt)
 
 -- a skip value
 

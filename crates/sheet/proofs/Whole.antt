@@ -14,20 +14,10 @@ use Rattle.rules.specs.Paths.{Mapping, Certificate, Path}
 use Rattle.rules.specs.Faults.{edition-fault, n-fault, count-fault, user-fault}
 use Rattle.rules.specs.Sheet.{Read, read, _then_, read-field, read-flag, read-policies, read-listed, read-mapped, read-skip, read-certificate, read-certificates, read-path, Field, _#_, flag, policy-fields, listed-fields, mapping-fields, mapped-fields, skip-fields, certificate-fields, fields}
 use Rattle.laws.proofs.Sets.{In, here, there, In-cons, In-append, In-map, map-In, In-each, each-In, Unique}
-use Rattle.sheet.proofs.Faults.{edition-passed, edition-passes, n-passed, n-passes, count-passed, count-passes, user-passed, user-passes, no-repeats, listed-some, listed-accepted}
+use Rattle.sheet.proofs.Faults.{edition-passed, edition-passes, n-passed, n-passes, count-passed, count-passes, user-passed, user-passes, no-repeats, listed-some, listed-accepted, in-each, each-in, good-pairs, pairs-good}
 use Rattle.sheet.proofs.Fields.{Holds, Fit, holds-none, holds-append, holds-split}
-use Rattle.sheet.proofs.Readers.{then-back, then-read, read-value, read-place, Reads, renamed, reads-good, reads-field, reads-flag, reads-policies, reads-listed, reads-mapped, reads-skip, loop, reads-loop, Each, SomePair}
-use Rattle.sheet.proofs.Writable.{Policy, Pair, SkipFits, WritableCertificate, Writable}
-
--- each of a list, by its place
-
-in-each : {A : Type 0} (P : A → Type 0) (before xs : List A) → ((a : A) → In a xs → P a) → Each (λ before. P) before xs
-in-each P before [] h = tt
-in-each P before (x ∷ xs) h = (h x here, in-each P (before ++ (x ∷ [])) xs (λ a i. h a (there i)))
-
-each-in : {A : Type 0} (P : A → Type 0) (before xs : List A) → Each (λ before. P) before xs → (a : A) → In a xs → P a
-each-in P before [] o a i = elim i [ ]
-each-in P before (x ∷ xs) o a i = ⊎-elim (λ e. subst P (sym e) (o .0)) (λ j. each-in P (before ++ (x ∷ [])) xs (o .1) a j) (In-cons i)
+use Rattle.sheet.proofs.Readers.{then-back, then-read, read-value, read-place, Reads, renamed, reads-good, reads-field, reads-flag, reads-policies, reads-listed, reads-mapped, reads-skip, loop, reads-loop}
+use Rattle.sheet.proofs.Writable.{Policy, Pair, Each, New, SkipFits, WritableCertificate, Writable}
 
 -- what fits its fields
 
@@ -128,17 +118,18 @@ listed-good s =
     (reads-listed s)
 
 abbrev Mapped : List Mapping → Type 0
-Mapped ms = (length ms ≤ Limits.listed) × ((m : Mapping) → In m ms → Pair m)
+Mapped ms = (length ms ≤ Limits.listed) × ((m : Mapping) → In m ms → Pair m) × Each New [] ms
 
 mapped-good : (s : List ℕ) → Reads s (read-mapped s) mapped-fields Mapped
 mapped-good s =
-    reads-good s (read-mapped s) mapped-fields _ Mapped (λ ms g. (g .0, in-each SomePair [] ms (λ m i. (g .1 m i .issuer .some, g .1 m i .subject .some))))
-    (λ ms o f. (
+    reads-good s (read-mapped s) mapped-fields _ Mapped (λ ms g. (g .0, good-pairs [] ms (λ m i. (g .1 m i .issuer .some, g .1 m i .subject .some)) (g .2)))
+    (λ ms o f. let p = pairs-good [] ms (o .1) in (
       o .0,
       λ m i.
-          let a = each-in SomePair [] ms (o .1) m i in
+          let a = p .0 m i in
           let b = mapped-fit ms f m i in
           record { issuer = record { some = a .0; fits = b .0 }; subject = record { some = a .1; fits = b .1 } },
+      p .1,
     ))
     (reads-mapped s)
 
@@ -169,7 +160,7 @@ certificate-forth s c k e w h =
     certificate-reading s k
     ∙ part-forth (reads-flag s) (c .self-issued) tt k _ _ (subst (λ fs. Holds s k fs e) (in-order c) h) (λ k h.
     part-forth (listed-good s) (c .policies) (w .policy-count, w .policies, w .no-repeats) k _ _ h (λ k h.
-    part-forth (mapped-good s) (c .mappings) (w .mapping-count, w .mappings) k _ _ h (λ k h.
+    part-forth (mapped-good s) (c .mappings) (w .mapping-count, w .mappings, w .no-pair-repeats) k _ _ h (λ k h.
     part-forth (skip-good s) (c .require-explicit) (w .require-explicit) k _ _ h (λ k h.
     part-forth (skip-good s) (c .inhibit-mapping) (w .inhibit-mapping) k _ _ h (λ k h.
     then-read _ _ (skip-good s .forward (c .inhibit-any) k e (w .inhibit-any) h))))))
@@ -189,6 +180,7 @@ certificate-back s c k e h =
         no-repeats = listed .2;
         mapping-count = mapped .0;
         mappings = mapped .1;
+        no-pair-repeats = mapped .2;
         require-explicit = x;
         inhibit-mapping = y;
         inhibit-any = z;

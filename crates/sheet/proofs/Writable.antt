@@ -1,10 +1,14 @@
--- The paths that a sheet can say: what refusals 3, 4 and 5 demand, and what fits the fields.
+-- The paths that a sheet can say: what refusals 3, 4, 5 and 11 demand, and what fits the fields.
 use Prim.Native.Nat.{ℕ, _^_, _≤_, _<_}
+use mathlib.Core.Bool.{false}
+use mathlib.Core.List.{List, [], _∷_, _++_}
+use mathlib.Core.Path.{_≡_}
 use lib.ListN.{length}
 use Rattle.rules.specs.declared.Skip.{Skip}
 use Rattle.rules.specs.declared.Skip.the-variants.{Absent, Certificates}
 use Rattle.rules.specs.Limits as Limits
 use Rattle.rules.specs.Paths.{Mapping, Certificate, Path}
+use Rattle.rules.specs.Faults.{pair-among}
 use Rattle.laws.proofs.Sets.{In, Unique}
 
 pub record Policy (p : ℕ) : Type 0 where
@@ -14,6 +18,15 @@ pub record Policy (p : ℕ) : Type 0 where
 pub record Pair (m : Mapping) : Type 0 where
   pub issuer : Policy (m .issuer)
   pub subject : Policy (m .subject)
+
+-- each of a list holds `ok`, after those before it
+abbrev pub Each : {A : Type 0} → (List A → A → Type 0) → List A → List A → Type 0
+Each ok before [] = Unit {0}
+Each ok before (x ∷ xs) = ok before x × Each ok (before ++ (x ∷ [])) xs
+
+-- the pair is none of those before it
+abbrev pub New : List Mapping → Mapping → Type 0
+New before m = pair-among (m .issuer) (m .subject) before ≡ false
 
 abbrev pub SkipFits : Skip → Type 0
 SkipFits Absent = Unit {0}
@@ -25,6 +38,7 @@ pub record WritableCertificate (c : Certificate) : Type 0 where
   pub no-repeats : Unique (c .policies)
   pub mapping-count : length (c .mappings) ≤ Limits.listed
   pub mappings : (m : Mapping) → In m (c .mappings) → Pair m
+  pub no-pair-repeats : Each New [] (c .mappings)
   pub require-explicit : SkipFits (c .require-explicit)
   pub inhibit-mapping : SkipFits (c .inhibit-mapping)
   pub inhibit-any : SkipFits (c .inhibit-any)
