@@ -3,20 +3,22 @@ use Prim.Native.Nat.{ℕ, suc, _+_, _-_, _*_, _≤_, _<_}
 use native.Mathlib.Omega.{arith}
 use mathlib.Core.Bool.{Bool, true, false}
 use mathlib.Core.List.{List, [], _∷_, _++_, map, map-append}
-use mathlib.Core.Path.{_≡_, refl, ap, sym, _∙_}
+use mathlib.Core.Path.{_≡_, refl, ap, ap₂, sym, _∙_}
 use borrow.Author.Tests.{ne-eqb}
-use lib.ListN.{length, take, drop, set, length-drop, length-map}
-use lib.Seq.{sets, length-sets, take-all}
+use lib.ListN.{length, take, drop, set, length-map}
+use lib.Seq.{sets, length-sets}
 use Rattle.rules.specs.Numbers as Numbers
 use Rattle.rules.specs.Sets.{_∈_}
 use Rattle.rules.specs.Bits.{field}
 use Rattle.rules.specs.Paths.{Mapping}
-use Rattle.rules.specs.Faults.{policy-fault}
+use Rattle.rules.specs.Layout.{pairs}
+use Rattle.rules.specs.Faults.{policy-fault, pair-fault}
 use Rattle.rules.specs.Sheet.{Read, refused, read, _then_, checked, read-field, read-policies, read-mappings}
 use Rattle.read_fields.proofs.Fields.{field-ends, field-here, checked-fault, checked-none}
 use Rattle.read_lists.specs.Lists.{list-fault, sides, number-of, Reads}
-use Rattle.record.proofs.Put.{sets-append}
-use Rattle.read_lists.proofs.Stores.{length-snoc, sets-more, pair-more, stretch}
+use Rattle.record.proofs.Put.{sets-append, sets-before}
+use Rattle.record.proofs.Unpacked.{pairs-back}
+use Rattle.read_lists.proofs.Stores.{length-snoc, sets-more, pair-more, stretch-held}
 use Rattle.read_lists.proofs.Readings.{then-refused, then-read, policies-end, policies-more, after-issuer, mappings-end, mappings-more}
 
 -- the fault of a policy that is 0; and of one that is not, in any list, and in a distinct list, where it may repeat
@@ -87,10 +89,7 @@ module _ (s : List ℕ) (fault : List ℕ → ℕ → ℕ) (count at : ℕ) (r�
     policies-length = ap length (l .holds) ∙ length-sets r₀ k (l .so-far)
 
     policies-before : k + count ≤ length r₀ → take i (take (length r - k) (drop k r)) ≡ l .so-far
-    policies-before h =
-        ap (take i) (take-all (length r - k) (drop k r) (omega (arith, length-drop k r)))
-        ∙ (λ j. take (sym (l .passed) j) (drop k (l .holds j)))
-        ∙ stretch r₀ k (l .so-far) (omega (arith, l .passed, l .within))
+    policies-before h = stretch-held r₀ r k (l .so-far) i (l .holds) (l .passed) (omega (arith, l .within))
 
     -- a search of the first i places from k on is one of the policies read
     pub policies-seen : (p : ℕ) {b m : Bool} → k + count ≤ length r₀ → b ≡ (p ∈ take i (take (length r - k) (drop k r))) → b ≡ m → p ∈ l .so-far ≡ m
@@ -156,6 +155,23 @@ module _ (s : List ℕ) (count at : ℕ) (r₀ : List ℕ) (k : ℕ) where
     pub mappings-length : length r ≡ length r₀
     mappings-length = ap length (l .holds) ∙ length-sets (sets r₀ k issuers) (k + count) subjects ∙ length-sets r₀ k issuers
 
+    -- the first i places of each side are the pairs read
+    mappings-before : k + count + count ≤ length r₀ → pairs (take i (take (length r - k) (drop k r))) (take i (take (length r - (k + count)) (drop (k + count) r))) ≡ l .so-far
+    mappings-before h =
+        let d : length issuers ≡ i = length-map (l .so-far) (λ m. m .issuer) ∙ l .passed in
+        let s : length subjects ≡ i = length-map (l .so-far) (λ m. m .subject) ∙ l .passed in
+        let p = length-sets r₀ k issuers in
+        let q = length-sets r₀ (k + count) subjects in
+        let w = l .within in
+        ap₂ pairs
+        (stretch-held (sets r₀ (k + count) subjects) r k issuers i (l .holds ∙ sym (sets-before r₀ (k + count) subjects k issuers (omega arith))) d (omega arith))
+        (stretch-held (sets r₀ k issuers) r (k + count) subjects i (l .holds) s (omega arith))
+        ∙ pairs-back (l .so-far)
+
+    -- a pair's fault after them
+    pub mappings-fault : (D S : ℕ) {f : ℕ} → k + count + count ≤ length r₀ → f ≡ pair-fault (pairs (take i (take (length r - k) (drop k r))) (take i (take (length r - (k + count)) (drop (k + count) r)))) D S → pair-fault (l .so-far) D S ≡ f
+    mappings-fault D S h e = ap (λ ms. pair-fault ms D S) (sym (mappings-before h)) ∙ sym e
+
     pub mappings-done : count ≤ i → Reads number-of (read-mappings s count [] at) sides r₀ k r Numbers.valid
     mappings-done h =
         let none : count - i ≡ 0 = omega arith in
@@ -187,20 +203,20 @@ module _ (s : List ℕ) (count at : ℕ) (r₀ : List ℕ) (k : ℕ) where
           abbrev after-subject : ℕ → ℕ → Read (List Mapping)
           after-subject S at = read-mappings s left (l .so-far ++ (record { issuer = D; subject = S } ∷ [])) at
 
-          subject-here : read-mappings s count [] at ≡ (read-field s 16 policy-fault (next + 16) then after-subject)
+          subject-here : read-mappings s count [] at ≡ (read-field s 16 (pair-fault (l .so-far) D) (next + 16) then after-subject)
           subject-here = mappings-here ∙ then-read (after-issuer s left (l .so-far)) (field-read s 16 policy-fault next D g e (pair-none D z))
 
-          subject-stop : (n : ℕ) → read-field s 16 policy-fault (next + 16) ≡ refused n → Reads number-of (read-mappings s count [] at) sides r₀ k r n
+          subject-stop : (n : ℕ) → read-field s 16 (pair-fault (l .so-far) D) (next + 16) ≡ refused n → Reads number-of (read-mappings s count [] at) sides r₀ k r n
           subject-stop n e = reads-refused sides r₀ k r (subject-here ∙ then-refused after-subject e)
 
           pub subject-short : 8 * length s < next + 32 → Reads number-of (read-mappings s count [] at) sides r₀ k r Numbers.sheet-ends
-          subject-short b = subject-stop _ (field-ends s (next + 16) 16 policy-fault (omega arith))
+          subject-short b = subject-stop _ (field-ends s (next + 16) 16 (pair-fault (l .so-far) D) (omega arith))
 
           module _ (S : ℕ) (b : next + 32 ≤ 8 * length s) (f : S ≡ field s (next + 16) 16) where
-            pub subject-zero : S ≡ 0 → Reads number-of (read-mappings s count [] at) sides r₀ k r Numbers.policy-zero
-            subject-zero y = subject-stop _ (field-refused s 16 policy-fault (next + 16) S (omega arith) f _ (pair-zero S y) (omega arith))
+            pub subject-refused : (n : ℕ) → pair-fault (l .so-far) D S ≡ n → 0 < n → Reads number-of (read-mappings s count [] at) sides r₀ k r n
+            subject-refused n y p = subject-stop n (field-refused s 16 (pair-fault (l .so-far) D) (next + 16) S (omega arith) f n y p)
 
-            pub mappings-next : (S ≡ 0 → ⊥) → MappingsSoFar s count at r₀ k (set (set r (k + i) D) (k + count + i) S) (next + 32) (i + 1)
+            pub mappings-next : pair-fault (l .so-far) D S ≡ 0 → MappingsSoFar s count at r₀ k (set (set r (k + i) D) (k + count + i) S) (next + 32) (i + 1)
             mappings-next y =
                 let m : Mapping = record { issuer = D; subject = S } in
                 let on : next + 16 + 16 ≡ next + 32 = omega arith in
@@ -215,6 +231,6 @@ module _ (s : List ℕ) (count at : ℕ) (r₀ : List ℕ) (k : ℕ) where
                       ∙ (λ j. sets (sets r₀ k (sym (map-append (λ m. m .issuer) (l .so-far) (m ∷ [])) j)) (k + count) (sym (map-append (λ m. m .subject) (l .so-far) (m ∷ [])) j));
                   rest =
                       subject-here
-                      ∙ then-read after-subject (field-read s 16 policy-fault (next + 16) S (omega arith) f (pair-none S y))
+                      ∙ then-read after-subject (field-read s 16 (pair-fault (l .so-far) D) (next + 16) S (omega arith) f y)
                       ∙ ap (after-subject S) on;
                 }

@@ -10,7 +10,7 @@ use Rattle.rules.specs.Numbers as Numbers
 use Rattle.rules.specs.Sets.{pick}
 use Rattle.rules.specs.Bits.{field}
 use Rattle.rules.specs.Paths.{Mapping}
-use Rattle.rules.specs.Faults.{policy-fault}
+use Rattle.rules.specs.Faults.{policy-fault, pair-fault}
 use Rattle.rules.specs.Sheet.{Read, refused, read, _then_, checked, read-field, read-policies, read-mappings}
 use Rattle.read_lists.proofs.Stores.{length-snoc}
 
@@ -68,7 +68,7 @@ module _ (s : List ℕ) where
 
   -- the subject of a pair, and the pairs after it
   abbrev pub after-issuer : ℕ → List Mapping → ℕ → ℕ → Read (List Mapping)
-  after-issuer m before D at = read-field s 16 policy-fault at then λ S at. read-mappings s m (before ++ (record { issuer = D; subject = S } ∷ [])) at
+  after-issuer m before D at = read-field s 16 (pair-fault before D) at then λ S at. read-mappings s m (before ++ (record { issuer = D; subject = S } ∷ [])) at
 
   pub mappings-more : (m : ℕ) (before : List Mapping) (at : ℕ) → read-mappings s (suc m) before at ≡ (read-field s 16 policy-fault at then after-issuer m before)
   unfolding read-mappings
@@ -82,9 +82,9 @@ module _ (s : List ℕ) where
       (omega arith, omega arith)
   mappings-reach (suc m) at before ms e h =
       let (D, n, f, r) = then-gave (read-field s 16 policy-fault at) (after-issuer m before) ms e (sym (mappings-more m before at) ∙ h) in
-      let (S, k, g, q) = then-gave (read-field s 16 policy-fault n) (λ S at. read-mappings s m (before ++ (record { issuer = D; subject = S } ∷ [])) at) ms e r in
+      let (S, k, g, q) = then-gave (read-field s 16 (pair-fault before D) n) (λ S at. read-mappings s m (before ++ (record { issuer = D; subject = S } ∷ [])) at) ms e r in
       let (d, l) = mappings-reach m k (before ++ (record { issuer = D; subject = S } ∷ [])) ms e q in
-      (omega (arith, field-gave s 16 policy-fault at D n f, field-gave s 16 policy-fault n S k g), omega (arith, length-snoc before (record { issuer = D; subject = S })))
+      (omega (arith, field-gave s 16 policy-fault at D n f, field-gave s 16 (pair-fault before D) n S k g), omega (arith, length-snoc before (record { issuer = D; subject = S })))
 
 pub mappings-at : (s : List ℕ) (m at : ℕ) (ms : List Mapping) (e : ℕ) → read-mappings s m [] at ≡ read ms e → (e ≡ at + 32 * m) × (length ms ≡ m)
 mappings-at s m at ms e h = let (d, l) = mappings-reach s m at [] ms e h in (d, omega arith)

@@ -1,14 +1,14 @@
 -- Numbers stored in a stretch of a record: one number more, a store before the stretch, two stretches side by side; and whether a
 -- list's first places hold a number.
-use Prim.Native.Nat.{ℕ, suc, _+_, _≤_, _<_}
+use Prim.Native.Nat.{ℕ, suc, _+_, _-_, _≤_, _<_}
 use native.Mathlib.Numerals.{add-one}
 use native.Mathlib.Omega.{arith}
 use mathlib.Core.Bool.{true, false, _||_}
 use mathlib.Core.List.{List, [], _∷_, _++_, append-assoc}
 use mathlib.Core.Path.{_≡_, refl, ap, sym, _∙_}
 use borrow.Author.Tests.{ne-eqb}
-use lib.ListN.{length, take, drop, set, getD, length-append}
-use lib.Seq.{sets, sets-eq, take-suc, take-append-seam, drop-at, length-take-le}
+use lib.ListN.{length, take, drop, set, getD, length-append, length-drop}
+use lib.Seq.{sets, sets-eq, take-all, take-suc, take-append-seam, drop-at, length-take-le}
 use Rattle.rules.specs.Sets.{_∈_}
 use Rattle.laws.proofs.Sets.{mem-append, eqb-same, or-right, or-false}
 use Rattle.record.proofs.Put.{sets-append, set-before}
@@ -41,6 +41,13 @@ pub stretch : (s : List ℕ) (k : ℕ) (xs : List ℕ) → k + length xs ≤ len
 stretch s k xs h =
     rw (sets-eq xs s k h, append-assoc)
     (ap (take (length xs)) (drop-at (take k s) _ k (length-take-le k s (omega arith))) ∙ take-append-seam xs _)
+
+-- the stretch, as the first i places of the part that starts there
+pub stretch-held : (s t : List ℕ) (k : ℕ) (xs : List ℕ) (i : ℕ) → t ≡ sets s k xs → length xs ≡ i → k + i ≤ length s → take i (take (length t - k) (drop k t)) ≡ xs
+stretch-held s t k xs i e l h =
+    ap (take i) (take-all (length t - k) (drop k t) (omega (arith, length-drop k t)))
+    ∙ (λ j. take (sym l j) (drop k (e j)))
+    ∙ stretch s k xs (omega arith)
 
 -- a pair more of two stretches, of which the second starts m places after the first
 pub pair-more : (s : List ℕ) (k m : ℕ) (xs ys : List ℕ) (x y i : ℕ) → length xs ≡ i → length ys ≡ i → i < m

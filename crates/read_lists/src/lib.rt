@@ -8,6 +8,7 @@ ghost use Rattle.rules.specs.Sheet.{read-policies, read-mappings};
 ghost use Rattle.read_fields.specs.Fields.{BitsOf};
 ghost use Rattle.read_lists.specs.Lists.{list-fault, sides, number-of, Reads};
 use bitfield::read_word;
+use faults::pair_fault;
 use rules::POLICY_REPEATS;
 use rules::POLICY_ZERO;
 use rules::SHEET_ENDS;
@@ -70,7 +71,7 @@ pub fn read_policies(
 }
 
 // `count` pairs from bit position `at` on into the record, from place `place` on, all issuers and then all subjects: 0, or the first
-// refusal.
+// refusal. A pair that repeats is refused at its subject.
 pub fn read_mappings(
     s: &[u8],
     bits: usize,
@@ -99,8 +100,9 @@ pub fn read_mappings(
             return SHEET_ENDS;
         }
         let subject = read_word(s, next + POLICY_BITS);
-        if subject == 0 {
-            return POLICY_ZERO;
+        let fault = pair_fault(&rec[place..], &rec[second..], i, issuer, subject);
+        if fault != 0 {
+            return fault;
         }
         rec[place + i] = issuer;
         rec[second + i] = subject;

@@ -2,10 +2,12 @@
 -- subjects apart, and reading on from `next` after them is the whole reading. The measure is the pairs left.
 use Prim.Native.Nat.{_+_, _-_, _*_, _≤_}
 use native.Mathlib.Omega.{arith}
-use mathlib.Core.Path.{_≡_}
-use lib.ListN.{length, length-set}
+use mathlib.Core.Path.{_≡_, _∙_}
+use borrow.Author.Needs.{needs}
+use lib.ListN.{length, length-set, length-take, length-drop}
+use Rattle.rules.specs.Faults.{pair-fault}
 use Rattle.read_fields.proofs.Bits.{bits-past, bits-within}
-use Rattle.read_lists.proofs.Loops.{MappingsSoFar, mappings-none, mappings-length, mappings-done, issuer-short, issuer-zero, subject-short, subject-zero, mappings-next}
+use Rattle.read_lists.proofs.Loops.{MappingsSoFar, mappings-none, mappings-length, mappings-done, issuer-short, issuer-zero, subject-short, mappings-fault, subject-refused, mappings-next}
 use Rattle.read_lists.proofs.read_mappings.Statement.{statement}
 use Rattle.read_lists.proofs.read_mappings.Tie as tie
 
@@ -26,12 +28,20 @@ same l = mappings-length _ _ _ _ _ _ _ _ (l .loop .inv)
 abbrev turn : tie.Else3 Inv-loop μ-loop → tie.At-loop Inv-loop μ-loop
 turn c = c .before .before .before .before .before
 
+-- the place where the subject is in the sheet, from the one where its fault is known
+abbrev at-subject : tie.After-pair-fault Inv-loop μ-loop → tie.Else3 Inv-loop μ-loop
+at-subject c = c .before .before .before .before .before
+
 -- the issuer is in the sheet; the subject is
 issuer-inside : (c : tie.Else1 Inv-loop μ-loop) → c .before .before .loop .next + 16 ≤ 8 * length (entry (c .before .before) .args .s .now)
 issuer-inside c = bits-within (entry (c .before .before) .pre .0) _ (omega arith) (c .if1 .left)
 
 subject-inside : (c : tie.Else3 Inv-loop μ-loop) → turn c .loop .next + 32 ≤ 8 * length (entry (turn c) .args .s .now)
 subject-inside c = bits-within (entry (turn c) .pre .0) _ (omega arith) (c .if3 .left)
+
+-- the fault is that of the pair after those read
+fault : (c : tie.After-pair-fault Inv-loop μ-loop) → pair-fault (turn (at-subject c) .loop .inv .so-far) (at-subject c .before .before .read-word .result) (c .before .before .before .before .read-word2 .result) ≡ c .pair-fault .result
+fault c = mappings-fault _ _ _ _ _ _ _ _ (turn (at-subject c) .loop .inv) _ _ (omega arith) (c .pair-fault .ensures)
 
 add-second : tie.Need-add-second Inv-loop μ-loop
 add-second c = omega arith
@@ -79,15 +89,42 @@ add-read-word c = omega arith
 read-word-requires-2 : tie.Need-read-word-requires-2 Inv-loop μ-loop
 read-word-requires-2 c κs = omega (arith, subject-inside c)
 
+mul-pair-fault : tie.Need-mul-pair-fault Inv-loop μ-loop
+mul-pair-fault c = omega arith
+
+sub-pair-fault : tie.Need-sub-pair-fault Inv-loop μ-loop
+sub-pair-fault c = omega (arith, same (turn (c .before)))
+
+part-pair-fault-start : tie.Need-part-pair-fault-start Inv-loop μ-loop
+part-pair-fault-start c = omega (arith, same (turn (c .before .before)))
+
+part-pair-fault-end : tie.Need-part-pair-fault-end Inv-loop μ-loop
+part-pair-fault-end c = search needs
+
+mul-pair-fault-2 : tie.Need-mul-pair-fault-2 Inv-loop μ-loop
+mul-pair-fault-2 c = omega arith
+
+sub-pair-fault-2 : tie.Need-sub-pair-fault-2 Inv-loop μ-loop
+sub-pair-fault-2 c = omega (arith, same (turn (c .before .before .before)))
+
+part-pair-fault-start-2 : tie.Need-part-pair-fault-start-2 Inv-loop μ-loop
+part-pair-fault-start-2 c = omega (arith, same (turn (c .before .before .before)))
+
+part-pair-fault-end-2 : tie.Need-part-pair-fault-end-2 Inv-loop μ-loop
+part-pair-fault-end-2 c = search needs
+
+pair-fault-requires : tie.Need-pair-fault-requires Inv-loop μ-loop
+pair-fault-requires c κs = let same-places = same (turn (c .before .before .before .before)) in (simp (length-take, length-drop) (omega arith), simp (length-take, length-drop) (omega arith))
+
 same-length-4 : tie.Need-same-length-4 Inv-loop μ-loop
-same-length-4 c = same (turn (c .before .before))
+same-length-4 c = same (turn (at-subject (c .before)))
 
 returns-4 : tie.Need-returns-4 Inv-loop μ-loop
-returns-4 c = let f = c .before .before in
+returns-4 c = let f = at-subject (c .before) in
     let e = f .before .before .before in
     let l = e .before .before in
-    subject-zero _ _ _ _ _ _ _ _ (l .loop .inv) (e .before .loop-test .taken) _ (issuer-inside e) (f .before .before .read-word .ensures) (f .before .if2 .left) _
-    (subject-inside f) (c .before .read-word2 .ensures) (c .if4 .taken)
+    subject-refused _ _ _ _ _ _ _ _ (l .loop .inv) (e .before .loop-test .taken) _ (issuer-inside e) (f .before .before .read-word .ensures) (f .before .if2 .left) _
+    (subject-inside f) (c .before .before .before .before .before .read-word2 .ensures) _ (fault (c .before)) (omega arith)
 
 add-rec : tie.Need-add-rec Inv-loop μ-loop
 add-rec c = omega arith
@@ -96,7 +133,7 @@ mul-rec : tie.Need-mul-rec Inv-loop μ-loop
 mul-rec c = omega arith
 
 slice-write-rec : tie.Need-slice-write-rec Inv-loop μ-loop
-slice-write-rec c = omega (arith, same (turn (c .before .before)))
+slice-write-rec c = omega (arith, same (turn (at-subject (c .before))))
 
 add-rec-2 : tie.Need-add-rec-2 Inv-loop μ-loop
 add-rec-2 c = omega arith
@@ -105,7 +142,7 @@ mul-rec-2 : tie.Need-mul-rec-2 Inv-loop μ-loop
 mul-rec-2 c = omega arith
 
 slice-write-rec-2 : tie.Need-slice-write-rec-2 Inv-loop μ-loop
-slice-write-rec-2 c = simp length-set (omega (arith, same (turn (c .before .before))))
+slice-write-rec-2 c = simp length-set (omega (arith, same (turn (at-subject (c .before)))))
 
 mul-next : tie.Need-mul-next Inv-loop μ-loop
 mul-next c = omega arith
@@ -120,11 +157,11 @@ loop-less : tie.Need-loop-less Inv-loop μ-loop
 loop-less c = omega arith
 
 loop-again : tie.Need-loop-again Inv-loop μ-loop
-loop-again c = let f = c .before .before in
+loop-again c = let f = at-subject (c .before) in
     let e = f .before .before .before in
     let l = e .before .before in
     mappings-next _ _ _ _ _ _ _ _ (l .loop .inv) (e .before .loop-test .taken) _ (issuer-inside e) (f .before .before .read-word .ensures) (f .before .if2 .left) _
-    (subject-inside f) (c .before .read-word2 .ensures) (c .if4 .left)
+    (subject-inside f) (c .before .before .before .before .before .read-word2 .ensures) (fault (c .before) ∙ c .if4 .left)
 
 same-length-5 : tie.Need-same-length-5 Inv-loop μ-loop
 same-length-5 c = same (c .before)
@@ -152,6 +189,15 @@ read-mappings-spec =
     returns-3
     add-read-word
     read-word-requires-2
+    mul-pair-fault
+    sub-pair-fault
+    part-pair-fault-start
+    part-pair-fault-end
+    mul-pair-fault-2
+    sub-pair-fault-2
+    part-pair-fault-start-2
+    part-pair-fault-end-2
+    pair-fault-requires
     same-length-4
     returns-4
     add-rec
