@@ -1,19 +1,23 @@
--- The numbers that reading a certificate's extensions can give: its refusals are 3, 5, 13, 14, 15 and 20.
-use Prim.Native.Nat.{ℕ, zero, suc, _*_, _-_, _%_}
+-- The numbers that reading a certificate's extensions can give: its refusals are 3, 5, 11, 13, 14, 15 and 20.
+use Prim.Native.Nat.{ℕ, zero, suc, _*_, _-_, _%_, _≤_}
 use mathlib.Core.Bool.{Bool, true, false, not, _&&_, _||_}
 use mathlib.Core.List.{List, [], _∷_}
-use mathlib.Core.Path.{_≡_, refl, sym, ap, _∙_}
+use mathlib.Core.Path.{_≡_, refl, sym, ap, subst, _∙_}
 use native.Mathlib.Omega.{arith}
 use lib.Dec.{eqb, ltb}
 use lib.ListN.{length, take, drop, getD}
+use borrow.Author.Tests.{ne-eqb}
 use Rattle.rules.specs.Limits as Limits
+use Rattle.rules.specs.Layout.{pairs}
 use Rattle.rules.specs.Numbers as Numbers
 use Rattle.rules.specs.Sets.{pick, _∈_, empty}
+use Rattle.rules.specs.Paths.{Mapping}
+use Rattle.rules.specs.Faults.{pair-among, pair-fault}
 use Rattle.laws.proofs.Sets.{by-cases, or-left, or-right, eqb-same, pick-yes, pick-no}
 use Rattle.record.specs.Record.{packed-certificate}
 use Rattle.extension_rules.specs.Outcomes.{Outcome, fault, fine, _then_, when}
 use Rattle.extension_rules.specs.Der.{sequence, object-identifier, number-from, content-of, long-form, measured, value-of, untagged, any-value, identifier-content, identifier, integer-content, integer}
-use Rattle.extension_rules.specs.Register.{most-octets, most-entries, any-octets, alike, place-of, numbered, register-bytes, good-register, entries}
+use Rattle.extension_rules.specs.Register.{most-octets, most-entries, any-octets, alike, place-of, Numbered, numbered, register-bytes, good-register, entries}
 use Rattle.extension_rules.specs.Extensions.{refusals, Read, Gathered, Extended, ended, elements, list-of, qualifier, qualifiers, policy, mapping, certificate-policies, policy-mappings, optional-skip, policy-constraints, inhibit-any-policy, extended, answered, read-extensions}
 use Rattle.extension_rules.specs.Face.{certificate-places, Lent, extension-number, lent-read, extensions-read}
 
@@ -34,6 +38,10 @@ known-3 = refl
 known-5 : Numbers.policy-repeats ∈ refusals ≡ true
 unfolding _∈_ refusals
 known-5 = refl
+
+known-11 : Numbers.pair-repeats ∈ refusals ≡ true
+unfolding _∈_ refusals
+known-11 = refl
 
 known-14 : Numbers.register-full ∈ refusals ≡ true
 unfolding _∈_ refusals
@@ -62,6 +70,12 @@ among-then : {A B : Type 0} (o : Outcome A) (f : A → Outcome B) → Among o �
 unfolding _then_
 among-then (fault n) f h k = h
 among-then (fine a) f h k = k a
+
+-- the same, where what was read is known
+among-then-known : {A B : Type 0} (o : Outcome A) (f : A → Outcome B) → Among o → ((a : A) → o ≡ fine a → Among (f a)) → Among (o then f)
+unfolding _then_
+among-then-known (fault n) f h k = h
+among-then-known (fine a) f h k = k a refl
 
 among-ended : {A : Type 0} (rest : List ℕ) (a : A) → Among (ended rest a)
 unfolding ended
@@ -111,6 +125,36 @@ among-numbered ids id =
     (among-pick (ltb (place-of id ids) (length ids)) _ _ tt
     (among-when (ltb (length ids) most-entries) Numbers.register-full _ known-14 tt)))
 
+-- an identifier's number is no 0
+abbrev Positive : Outcome Numbered → Type 0
+Positive (fault n) = Unit {0}
+Positive (fine n) = 1 ≤ n .policy
+
+positive-pick : (b : Bool) (o q : Outcome Numbered) → Positive o → Positive q → Positive (pick b o q)
+unfolding pick
+positive-pick true o q h k = h
+positive-pick false o q h k = k
+
+positive-numbered : (ids : List (List ℕ)) (id : List ℕ) → Positive (numbered ids id)
+unfolding numbered when
+positive-numbered ids id =
+    positive-pick (not (ltb most-octets (length id))) _ _
+    (positive-pick (alike id any-octets) _ _ (omega arith)
+    (positive-pick (ltb (place-of id ids) (length ids)) _ _ (omega arith) (positive-pick (ltb (length ids) most-entries) _ _ (omega arith) tt)))
+    tt
+
+-- so a pair's fault at its subject is 11
+among-pair : {A : Type 0} (before : List Mapping) (D S : ℕ) → 1 ≤ S → (o : Outcome A) → Among o → Among (when (eqb (pair-fault before D S) 0) (pair-fault before D S) o)
+unfolding pair-fault when pick
+among-pair {A} before D S h o k = subst (λ z. Among (given (pick z Numbers.policy-zero (pick (pair-among D S before) Numbers.pair-repeats 0)))) (sym (ne-eqb S 0 (λ e. omega arith))) (go (pair-among D S before))
+  where
+    given : ℕ → Outcome A
+    given f = pick (eqb f 0) o (fault f)
+
+    go : (b : Bool) → Among (given (pick b Numbers.pair-repeats 0))
+    go true = known-11
+    go false = k
+
 module _ {A : Type 0} (read : A → List ℕ → Outcome A) (each : (a : A) (s : List ℕ) → Among (read a s)) where
   among-elements : (n : ℕ) (a : A) (s : List ℕ) → Among (elements read n a s)
   unfolding elements
@@ -149,7 +193,8 @@ among-mapping g s =
     among-when (ltb (length (g .issuers)) Limits.listed) Numbers.wrong-count _ known-3
     (among-then (numbered (g .known) (p .content)) _ (among-numbered (g .known) (p .content)) (λ i.
     among-then (identifier (p .rest)) _ (among-identifier (p .rest)) (λ q.
-    among-then (numbered (i .known) (q .content)) _ (among-numbered (i .known) (q .content)) (λ j. among-ended (q .rest) _)))))
+    among-then-known (numbered (i .known) (q .content)) _ (among-numbered (i .known) (q .content)) (λ j e.
+    among-pair (pairs (g .issuers) (g .subjects)) (i .policy) (j .policy) (subst Positive e (positive-numbered (i .known) (q .content))) _ (among-ended (q .rest) _))))))
 
 among-policies : (g : Gathered) (s : List ℕ) → Among (certificate-policies g s)
 unfolding certificate-policies

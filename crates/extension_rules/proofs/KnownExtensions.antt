@@ -1,6 +1,6 @@
 -- The values of the four extensions, and what they give with the identifiers that are known: one table for each value, one for all four and one with the
 -- register in bytes, and one claim for each that covers every row, by computation.
-use Prim.Native.Nat.{ℕ, suc, _+_}
+use Prim.Native.Nat.{ℕ, suc, _+_, _-_}
 use mathlib.Core.Bool.{Bool, true, false}
 use mathlib.Core.List.{List, [], _∷_, _++_, map}
 use mathlib.Core.Path.{_≡_, refl}
@@ -235,10 +235,15 @@ unmapped : List (List ℕ) → List ℕ → ℕ → Row
 unfolding refused
 unmapped ks s n = refused ks [] s [] [] n
 
--- n pairs, all of them 2A and 2B
-alike : ℕ → List ℕ
-unfolding each pair
-alike n = each {A = ℕ} (λ a. pair 0x2A 0x2B) (replicate n 0)
+-- n pairs of the issuer 2A, the subjects from 40 upward
+apart : ℕ → List ℕ
+unfolding each pair from
+apart n = each (pair 0x2A) (from 0x40 n)
+
+-- their identifiers
+apart-known : ℕ → List (List ℕ)
+unfolding ids from
+apart-known n = ids (0x2A ∷ from 0x40 n)
 
 -- a pair of these identifiers
 pair-of : List ℕ → List ℕ → List ℕ
@@ -246,7 +251,7 @@ unfolding sequence oid
 pair-of a b = sequence (oid a ++ oid b)
 
 unfoldable pub mappings-rows : List Row
-unfolding mapped unmapped ids _to_ alike pair-of list value long-value sequence oid pair any-policy many
+unfolding mapped unmapped ids _to_ apart apart-known pair-of list value long-value sequence oid pair any-policy many from
 mappings-rows =
     -- policyMappings absent
     mapped (ids (0x2A ∷ [])) [] [] (ids (0x2A ∷ []))
@@ -256,14 +261,32 @@ mappings-rows =
     ∷ mapped (ids (0x2A ∷ 0x2B ∷ [])) (sequence (pair 0x2B 0x2A ++ pair 0x2C 0x2B ++ pair 0x2D 0x2C)) (3 to 2 ∷ 4 to 3 ∷ 5 to 4 ∷ []) (ids (0x2A ∷ 0x2B ∷ 0x2C ∷ 0x2D ∷ []))
     -- one identifier as issuer and subject
     ∷ mapped [] (sequence (pair 0x2A 0x2A)) (2 to 2 ∷ []) (ids (0x2A ∷ []))
-    -- an issuer with two subjects, and a pair repeated, as they stand
-    ∷ mapped [] (sequence (pair 0x2A 0x2B ++ pair 0x2A 0x2C ++ pair 0x2A 0x2B)) (2 to 3 ∷ 2 to 4 ∷ 2 to 3 ∷ []) (ids (0x2A ∷ 0x2B ∷ 0x2C ∷ []))
+    -- pairs of the same issuer and another subject, of the same subject and another issuer, and with their policies exchanged
+    ∷ mapped [] (sequence (pair 0x2A 0x2B ++ pair 0x2A 0x2C ++ pair 0x2D 0x2B ++ pair 0x2B 0x2A)) (2 to 3 ∷ 2 to 4 ∷ 5 to 3 ∷ 3 to 2 ∷ []) (ids (0x2A ∷ 0x2B ∷ 0x2C ∷ 0x2D ∷ []))
+    -- a pair repeated, next to itself, as the last pair, and not the first one: 11
+    ∷ unmapped [] (sequence (pair 0x2A 0x2B ++ pair 0x2A 0x2B)) 11
+    ∷ unmapped [] (sequence (pair 0x2A 0x2B ++ pair 0x2A 0x2C ++ pair 0x2A 0x2B)) 11
+    ∷ unmapped [] (sequence (pair 0x2A 0x2C ++ pair 0x2A 0x2B ++ pair 0x2A 0x2B)) 11
+    -- a pair repeated that names anyPolicy, once and twice
+    ∷ unmapped [] (sequence (pair-of any-policy (0x2A ∷ []) ++ pair-of any-policy (0x2A ∷ []))) 11
+    ∷ unmapped [] (sequence (pair-of any-policy any-policy ++ pair-of any-policy any-policy)) 11
+    -- a pair repeated: 13 where its second subject is missing or not valid
+    ∷ unmapped [] (sequence (pair 0x2A 0x2B ++ sequence (oid (0x2A ∷ [])))) 13
+    ∷ unmapped [] (sequence (pair 0x2A 0x2B ++ pair-of (0x2A ∷ []) (0x80 ∷ 0x01 ∷ []))) 13
+    -- a pair repeated: before the octets after its second subject, a 13 later in the value, and the octets after the value
+    ∷ unmapped [] (sequence (pair 0x2A 0x2B ++ sequence (oid (0x2A ∷ []) ++ oid (0x2B ∷ []) ++ 0x00 ∷ []))) 11
+    ∷ unmapped [] (sequence (pair 0x2A 0x2B ++ pair 0x2A 0x2B ++ 0x31 ∷ 0x00 ∷ [])) 11
+    ∷ unmapped [] (sequence (pair 0x2A 0x2B ++ pair 0x2A 0x2B) ++ 0x00 ∷ []) 11
+    -- a pair repeated after a 13
+    ∷ unmapped [] (sequence (pair 0x2A 0x2B ++ 0x31 ∷ 0x00 ∷ pair 0x2A 0x2B)) 13
+    -- a pair repeated where 512 stand
+    ∷ unmapped (many 512) (sequence (pair-of (0x00 ∷ 0x00 ∷ []) (0x00 ∷ 0x01 ∷ []) ++ pair-of (0x00 ∷ 0x00 ∷ []) (0x00 ∷ 0x01 ∷ []))) 11
     -- anyPolicy is 1: as issuer, as subject, as both
     ∷ mapped [] (sequence (pair-of any-policy (0x2A ∷ []))) (1 to 2 ∷ []) (ids (0x2A ∷ []))
     ∷ mapped [] (sequence (pair-of (0x2A ∷ []) any-policy)) (2 to 1 ∷ []) (ids (0x2A ∷ []))
     ∷ mapped [] (sequence (pair-of any-policy any-policy)) (1 to 1 ∷ []) []
     -- a full list of pairs
-    ∷ mapped [] (list (alike Limits.listed)) (replicate Limits.listed (2 to 3)) (ids (0x2A ∷ 0x2B ∷ []))
+    ∷ mapped [] (list (apart Limits.listed)) (map (λ k. 2 to k) (from 3 Limits.listed)) (apart-known Limits.listed)
     -- identifiers of 32 octets
     ∷ mapped [] (sequence (pair-of (replicate 32 0x2A) (replicate 32 0x2B))) (2 to 3 ∷ []) (replicate 32 0x2A ∷ replicate 32 0x2B ∷ [])
     -- an empty list of pairs: 3, also where octets follow it
@@ -316,22 +339,23 @@ mappings-rows =
     ∷ mapped (many 511) (sequence (pair 0x2A 0x2A)) (513 to 513 ∷ []) (many 511 ++ ids (0x2A ∷ []))
     ∷ unmapped (many 511) (sequence (pair 0x2A 0x2B)) 14
     -- a pair too many
-    ∷ unmapped [] (list (alike (suc Limits.listed))) 3
-    -- a pair too many: 3 at its issuer, before the issuer's 15 and 14 and the subject's 13
-    ∷ unmapped [] (list (alike Limits.listed ++ pair-of (replicate 33 0x2A) (0x2B ∷ []))) 3
-    ∷ unmapped (ids (0x2A ∷ 0x2B ∷ []) ++ many 510) (list (alike Limits.listed ++ pair 0x2C 0x2B)) 3
-    ∷ unmapped [] (list (alike Limits.listed ++ sequence (oid (0x2A ∷ [])))) 3
-    ∷ unmapped [] (list (alike Limits.listed ++ pair-of (0x2A ∷ []) (0x80 ∷ 0x01 ∷ []))) 3
+    ∷ unmapped [] (list (apart (suc Limits.listed))) 3
+    -- a pair too many: 3 at its issuer, before the issuer's 15 and 14 and the subject's 13 and 11
+    ∷ unmapped [] (list (apart Limits.listed ++ pair 0x2A 0x40)) 3
+    ∷ unmapped [] (list (apart Limits.listed ++ pair-of (replicate 33 0x2A) (0x2B ∷ []))) 3
+    ∷ unmapped (apart-known Limits.listed ++ many (512 - suc Limits.listed)) (list (apart Limits.listed ++ pair 0x2C 0x2A)) 3
+    ∷ unmapped [] (list (apart Limits.listed ++ sequence (oid (0x2A ∷ [])))) 3
+    ∷ unmapped [] (list (apart Limits.listed ++ pair-of (0x2A ∷ []) (0x80 ∷ 0x01 ∷ []))) 3
     -- a pair too many whose header or issuer is bad
-    ∷ unmapped [] (list (alike Limits.listed ++ 0x31 ∷ 0x00 ∷ [])) 13
-    ∷ unmapped [] (list (alike Limits.listed ++ 0x30 ∷ 0x00 ∷ [])) 13
-    ∷ unmapped [] (list (alike Limits.listed ++ pair-of (0x80 ∷ 0x01 ∷ []) (0x2B ∷ []))) 13
+    ∷ unmapped [] (list (apart Limits.listed ++ 0x31 ∷ 0x00 ∷ [])) 13
+    ∷ unmapped [] (list (apart Limits.listed ++ 0x30 ∷ 0x00 ∷ [])) 13
+    ∷ unmapped [] (list (apart Limits.listed ++ pair-of (0x80 ∷ 0x01 ∷ []) (0x2B ∷ []))) 13
     -- 15 before a 13 later in the value, and 13 before a 15
     ∷ unmapped [] (sequence (pair-of (replicate 33 0x2A) (0x2B ∷ []) ++ 0x31 ∷ 0x00 ∷ [])) 15
     ∷ unmapped [] (sequence (0x31 ∷ 0x00 ∷ pair-of (replicate 33 0x2A) (0x2B ∷ []))) 13
     -- 15 and 3 before the octets after the value
     ∷ unmapped [] (sequence (pair-of (replicate 33 0x2A) (0x2B ∷ [])) ++ 0x00 ∷ []) 15
-    ∷ unmapped [] (list (alike (suc Limits.listed)) ++ 0x00 ∷ []) 3
+    ∷ unmapped [] (list (apart (suc Limits.listed)) ++ 0x00 ∷ []) 3
     ∷ []
 
 -- Every value of policyMappings gives what is expected.
@@ -461,10 +485,13 @@ whole-rows =
     ∷ refused [] (0x30 ∷ 0x00 ∷ []) (0x31 ∷ []) [] [] 3
     ∷ refused [] (0x31 ∷ []) (0x30 ∷ 0x00 ∷ []) [] [] 13
     ∷ refused [] (sequence (policy 0x2A) ++ 0x00 ∷ []) (0x30 ∷ 0x00 ∷ []) [] [] 13
+    -- the policies' 5 before the mappings' 11
+    ∷ refused [] (sequence (policy 0x2A ++ policy 0x2A)) (sequence (pair 0x2A 0x2B ++ pair 0x2A 0x2B)) [] [] 5
     -- the policies' 5 before the faults of policyConstraints and inhibitAnyPolicy
     ∷ refused [] (sequence (policy 0x2A ++ policy 0x2A)) [] (0x31 ∷ []) [] 5
     ∷ refused [] (sequence (policy 0x2A ++ policy 0x2A)) [] [] (0x31 ∷ []) 5
-    -- the mappings' 3 and 15 before the faults of policyConstraints and inhibitAnyPolicy
+    -- the mappings' 3, 15 and 11 before the faults of policyConstraints and inhibitAnyPolicy
+    ∷ refused [] [] (sequence (pair 0x2A 0x2B ++ pair 0x2A 0x2B)) (0x31 ∷ []) (0x31 ∷ []) 11
     ∷ refused [] [] (0x30 ∷ 0x00 ∷ []) (0x31 ∷ []) [] 3
     ∷ refused [] [] (sequence (sequence (oid (replicate 33 0x2A)))) (0x31 ∷ []) [] 15
     ∷ refused [] [] (0x30 ∷ 0x00 ∷ []) [] (0x31 ∷ []) 3

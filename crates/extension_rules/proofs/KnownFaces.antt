@@ -27,7 +27,7 @@ unfolding figures
 known-face-figures = refl
 
 -- The refusals are the numbers that paper 02 names for this function.
-pub known-refusals : refusals ≡ 3 ∷ 5 ∷ 13 ∷ 14 ∷ 15 ∷ 20 ∷ []
+pub known-refusals : refusals ≡ 3 ∷ 5 ∷ 11 ∷ 13 ∷ 14 ∷ 15 ∷ 20 ∷ []
 unfolding refusals
 known-refusals = refl
 
@@ -43,11 +43,11 @@ unfoldable pub number-rows : List NumberRow
 unfolding numbered
 number-rows =
     -- the refusals, and 7
-    map (numbered true) (3 ∷ 5 ∷ 7 ∷ 13 ∷ 14 ∷ 15 ∷ 20 ∷ [])
+    map (numbered true) (3 ∷ 5 ∷ 7 ∷ 11 ∷ 13 ∷ 14 ∷ 15 ∷ 20 ∷ [])
     -- 256 times a number of places
     ++ (map (numbered true) (1536 ∷ 256 * certificate-places ∷ [])
     -- the sheet's other numbers, and those of no request
-    ++ (map (numbered false) (1 ∷ 2 ∷ 4 ∷ 6 ∷ 8 ∷ 9 ∷ 10 ∷ 11 ∷ 12 ∷ 16 ∷ 19 ∷ 21 ∷ [])
+    ++ (map (numbered false) (1 ∷ 2 ∷ 4 ∷ 6 ∷ 8 ∷ 9 ∷ 10 ∷ 12 ∷ 16 ∷ 19 ∷ 21 ∷ [])
     -- a number of places that is not times 256, a refusal beside one
     ++ map (numbered false) (certificate-places ∷ 128 ∷ 255 ∷ 257 ∷ 1549 ∷ 1664 ∷ [])))
 
@@ -104,6 +104,7 @@ rows =
     (filled certificate-places 0 (1 ∷ 1 ∷ 1 ∷ 4 ∷ 5 ∷ 6 ∷ 2 ∷ 2 ∷ 3 ∷ []) ++ 9 ∷ 9 ∷ [])
     -- a refusal: its number, zeros, places beyond and the register as they were
     ∷ row (sequence (policy 0x2A) ++ 0x00 ∷ []) [] [] [] (none 17922) (certificate-places + 2) 13 (none 17922) (replicate certificate-places 0 ++ 9 ∷ 9 ∷ [])
+    ∷ row (sequence (policy 0x2A)) (sequence (pair 0x2A 0x29 ++ pair 0x2A 0x29)) [] [] (none 17922) (certificate-places + 2) 11 (none 17922) (replicate certificate-places 0 ++ 9 ∷ 9 ∷ [])
     -- 20: the same
     ∷ row [] [] [] [] (bad 17922) (certificate-places + 1) 20 (bad 17922) (replicate certificate-places 0 ++ 9 ∷ [])
     -- 7: a register of 17,921 bytes, a certificate one place short; nothing is written

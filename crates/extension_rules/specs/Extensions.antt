@@ -12,6 +12,7 @@ use Rattle.rules.specs.Numbers as Numbers
 use Rattle.rules.specs.Layout.{pairs}
 use Rattle.rules.specs.Paths.{Certificate}
 use Rattle.rules.specs.Sets.{pick, _∈_, empty}
+use Rattle.rules.specs.Faults.{pair-fault}
 use Rattle.extension_rules.specs.Outcomes.{Outcome, fault, fine, _then_, when}
 use Rattle.extension_rules.specs.Der.{sequence, integer-number, tag-0, tag-1, value-of, any-value, identifier, integer, skip-value}
 use Rattle.extension_rules.specs.Register.{numbered, good-register, count, entries, enter-all}
@@ -61,16 +62,18 @@ policy g s =
     when (not (n .policy ∈ g .policies)) Numbers.policy-repeats
     (qualifiers (record { known = n .known; policies = g .policies ++ (n .policy ∷ []); issuers = g .issuers; subjects = g .subjects }) (p .rest)))
 
--- a pair: the issuer's identifier, which is 3 beyond the limit of pairs, and the subject's
+-- a pair: the issuer's identifier, which is 3 beyond the limit of pairs, and the subject's, which is 11 where the pair repeats
 unfoldable pub mapping : Gathered → List ℕ → Outcome Gathered
-unfolding _then_ when pick identifier numbered ended
+unfolding _then_ when pick identifier numbered pairs pair-fault ended
 mapping g s =
     identifier s then λ p.
     when (ltb (length (g .issuers)) Limits.listed) Numbers.wrong-count
     (numbered (g .known) (p .content) then λ i.
     identifier (p .rest) then λ q.
     numbered (i .known) (q .content) then λ j.
-    ended (q .rest) (record { known = j .known; policies = g .policies; issuers = g .issuers ++ (i .policy ∷ []); subjects = g .subjects ++ (j .policy ∷ []) }))
+    let repeats = pair-fault (pairs (g .issuers) (g .subjects)) (i .policy) (j .policy) in
+    when (eqb repeats 0) repeats
+    (ended (q .rest) (record { known = j .known; policies = g .policies; issuers = g .issuers ++ (i .policy ∷ []); subjects = g .subjects ++ (j .policy ∷ []) })))
 
 -- "An empty part means an absent extension"; "An empty list of policies or pairs is 3, at its header"
 unfoldable pub certificate-policies : Gathered → List ℕ → Outcome Gathered
@@ -165,9 +168,9 @@ unfolding count enter-all
 answered r (fault n) = record { number = n; certificate = cleared; register = r }
 answered r (fine e) = record { number = Numbers.valid; certificate = e .certificate; register = enter-all r (drop (count r) (e .known)) }
 
--- the refusals: 3, 5, 13, 14, 15 and 20
+-- the refusals: 3, 5, 11, 13, 14, 15 and 20
 unfoldable pub refusals : List ℕ
-refusals = Numbers.wrong-count ∷ Numbers.policy-repeats ∷ Numbers.not-der ∷ Numbers.register-full ∷ Numbers.identifier-long ∷ Numbers.register-bad ∷ []
+refusals = Numbers.wrong-count ∷ Numbers.policy-repeats ∷ Numbers.pair-repeats ∷ Numbers.not-der ∷ Numbers.register-full ∷ Numbers.identifier-long ∷ Numbers.register-bad ∷ []
 
 -- "any other register is answered 20 first"
 unfoldable pub read-extensions : List ℕ → List ℕ → List ℕ → List ℕ → Bool → List ℕ → Read

@@ -1,13 +1,16 @@
 -- A pair case by case, in the order of its refusals; and the value, with and without its list.
 use Prim.Native.Nat.{ℕ, _≤_, _<_}
 use mathlib.Core.List.{List, [], _∷_, _++_}
-use mathlib.Core.Path.{_≡_, refl, _∙_}
+use mathlib.Core.Path.{_≡_, refl, ap, _∙_}
 use native.Mathlib.Omega.{arith}
+use lib.Dec.{eqb}
 use lib.ListN.{length}
-use borrow.Author.Tests.{lt-ltb, le-ltb}
+use borrow.Author.Tests.{lt-ltb, le-ltb, eq-eqb, ne-eqb}
 use Rattle.rules.specs.Limits as Limits
 use Rattle.rules.specs.Numbers as Numbers
-use Rattle.extension_rules.specs.Outcomes.{fault, fine}
+use Rattle.rules.specs.Layout.{pairs}
+use Rattle.rules.specs.Faults.{pair-fault}
+use Rattle.extension_rules.specs.Outcomes.{fault, fine, when}
 use Rattle.extension_rules.specs.Der.{Part, identifier}
 use Rattle.extension_rules.specs.Register.{Numbered, numbered}
 use Rattle.extension_rules.specs.Extensions.{Gathered, ended, list-of, mapping, policy-mappings}
@@ -24,9 +27,19 @@ module _ (g : Gathered) (i : ℕ) (s : List ℕ) where
     unfolding subject-read
     subject-refused n e = then-fine _ q is ∙ then-fault _ n e
 
-    pub subject-after : (j : Numbered) → numbered (g .known) (q .content) ≡ fine j → subject-read g i s ≡ ended (q .rest) (record { known = j .known; policies = g .policies; issuers = g .issuers ++ (i ∷ []); subjects = g .subjects ++ (j .policy ∷ []) })
-    unfolding subject-read
-    subject-after j e = then-fine _ q is ∙ then-fine _ j e
+    module _ (j : Numbered) (e : numbered (g .known) (q .content) ≡ fine j) {f : ℕ} (r : pair-fault (pairs (g .issuers) (g .subjects)) i (j .policy) ≡ f) where
+      abbrev with-pair : Gathered
+      with-pair = record { known = j .known; policies = g .policies; issuers = g .issuers ++ (i ∷ []); subjects = g .subjects ++ (j .policy ∷ []) }
+
+      subject-numbered : subject-read g i s ≡ when (eqb f 0) f (ended (q .rest) with-pair)
+      unfolding subject-read
+      subject-numbered = then-fine _ q is ∙ then-fine _ j e ∙ ap (λ f. when (eqb f 0) f (ended (q .rest) with-pair)) r
+
+      pub subject-repeats : (f ≡ 0 → ⊥) → subject-read g i s ≡ fault f
+      subject-repeats z = subject-numbered ∙ when-no _ _ (ne-eqb f 0 z)
+
+      pub subject-after : f ≡ 0 → subject-read g i s ≡ ended (q .rest) with-pair
+      subject-after z = subject-numbered ∙ when-yes _ _ (eq-eqb f 0 z)
 
 module _ (g : Gathered) (s : List ℕ) where
   pub mapping-bad : (n : ℕ) → identifier s ≡ fault n → mapping g s ≡ fault n

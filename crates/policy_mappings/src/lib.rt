@@ -3,6 +3,7 @@ use der::OBJECT_IDENTIFIER;
 use der::SEQUENCE;
 use der::header_of;
 use der::identifier;
+use faults::pair_fault;
 use gathered::REFUSED;
 use gathered::number;
 use gathered::put_pair;
@@ -17,7 +18,7 @@ ghost use Rattle.extension_rules.specs.Extensions.{mapping, policy-mappings};
 ghost use Rattle.policy_mappings.specs.Subject.{subject-read, Half};
 ghost use Rattle.gathered.specs.Lists.{answer, with-pairs, Pairs};
 
-// The subject's identifier, with its refusals 13, 15 and 14, after the issuer's number, and nothing after it.
+// The subject's identifier, with its refusals 13, 15, 14 and 11, after the issuer's number, and nothing after it.
 fn read_subject(s: &[u8], r: &[u8], f: &mut [u8], ms: &mut [u16], issuer: u16) -> u8
     requires { ⌜ Half (now r) (now f) (now ms) ⌝ }
     ensures { λ n. ⌜ ((qs : List ℕ) → answer n (with-pairs (now (r .entry)) (now (f .exit)) qs (now (ms .exit))) ≡ subject-read (with-pairs (now (r .entry)) (now (f .entry)) qs (now (ms .entry))) issuer (now (s .entry))) ⌝ }
@@ -31,6 +32,11 @@ fn read_subject(s: &[u8], r: &[u8], f: &mut [u8], ms: &mut [u16], issuer: u16) -
     let subject = number(r, f, id);
     if REFUSED <= subject {
         return (subject - REFUSED) as u8;
+    }
+    let count = wide(ms[0]);
+    let fault = pair_fault(&ms[1..], &ms[1 + LISTED..], count, issuer, subject as u16);
+    if fault != 0 {
+        return fault;
     }
     if h.end < s.len() {
         return NOT_DER;

@@ -10,7 +10,7 @@ use Rattle.rules.specs.Numbers as Numbers
 use Rattle.rules.specs.Sets.{pick}
 use Rattle.rules.specs.Bits.{field}
 use Rattle.rules.specs.Paths as Paths
-use Rattle.rules.specs.Faults.{present-fault, policy-fault, listed-fault, no-fault}
+use Rattle.rules.specs.Faults.{present-fault, policy-fault, pair-fault, listed-fault, no-fault}
 use Rattle.rules.specs.Sheet.{Read, refused, read, _then_, checked, read-field, read-flag, read-policies, read-mappings, read-listed, read-mapped, read-skip, read-certificate, read-certificates}
 use Rattle.read_fields.specs.Fields.{read-count, read-skip-number}
 use Rattle.read_certificate.specs.Certificate.{read-lists, read-skips}
@@ -61,7 +61,7 @@ unfolding read-mappings
 mappings-reach s zero before at = reached at (omega arith)
 mappings-reach s (suc m) before at =
     field-then _ s 16 policy-fault at _
-    (λ D h. field-then _ s 16 policy-fault (at + 16) _
+    (λ D h. field-then _ s 16 (pair-fault before D) (at + 16) _
     (λ S h. reach-up (omega arith) (mappings-reach s m (before ++ (record { issuer = D; subject = S } ∷ [])) (at + 16 + 16))))
 
 -- what a flag says is present, after it
