@@ -7,7 +7,7 @@
 #include <stdio.h>
 #include <stdlib.h>
 
-enum { ANY_POLICY = 1, FIRST_VERDICT = 8 };
+enum { ANY_POLICY = 1 };
 
 /* What the functions return: a number, and 256 times a place or a length. */
 static unsigned number(uint32_t returned) { return (unsigned)(returned % 256); }
@@ -18,9 +18,9 @@ static void fail(const char *what) {
     exit(EXIT_FAILURE);
 }
 
-/* Ends the program on a refusal. 1 to 7 refuse; 0 and from 8 on are verdicts. */
+/* Ends the program on a refusal. */
 static void accepted(const char *what, uint32_t returned) {
-    if (number(returned) != 0 && number(returned) < FIRST_VERDICT) {
+    if (skandrulo_refuses((uint8_t)number(returned))) {
         fprintf(stderr, "build: %s is refused with %u\n", what, number(returned));
         exit(EXIT_FAILURE);
     }

@@ -27,7 +27,7 @@
 #include <string.h>
 
 enum { REFUSED = 1, WRONG_CALL = 2 };
-enum { ANY_POLICY = 1, FIRST_ENTRY = 2, FIRST_VERDICT = 8 };
+enum { ANY_POLICY = 1, FIRST_ENTRY = 2 };
 enum { MOST_CERTIFICATES = SKANDRULO_CERTIFICATES, MOST_BYTES = 65536, LONGEST_IDENTIFIER = 32 };
 
 /* What the functions return: a number, and 256 times a place or a length. */
@@ -397,7 +397,7 @@ static void judge(const struct record *record, const uint8_t *reg, const struct 
     print_sheet(sheet, beside(written));
     answer = skandrulo_judge_sheet(sheet, beside(written), authority, SKANDRULO_TABLE, table, SKANDRULO_TABLE, counts,
                                    SKANDRULO_DEPTHS);
-    if (number(answer) != 0 && number(answer) < FIRST_VERDICT) stop(REFUSED, "the sheet", "is refused");
+    if (skandrulo_refuses((uint8_t)number(answer))) stop(REFUSED, "the sheet", "is refused");
     print_answer(reg, user, answer, table);
 }
 

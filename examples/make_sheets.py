@@ -1,5 +1,5 @@
 #!/usr/bin/env python3
-"""Writes the sheets of document 01's known paths, one that is answered 9, those of request Four's limits and the longest sheet with the answers expected, and the sheets of a test program.
+"""Writes the sheets of document 01's known paths, one that is answered 9, one that is answered 11, those of request Four's limits and the longest sheet with the answers expected, and the sheets of a test program.
 
     examples/make_sheets.py     writes examples/*.sheet, examples/*.answer, and the data and the lines expected of crates/sheet_check
 
@@ -11,6 +11,9 @@ ROOT = pathlib.Path(__file__).resolve().parent.parent
 
 # Document 02, request Four: the most certificates, and the most of a list.
 CERTIFICATES, LISTED, LONGEST = 15, 31, 2929
+
+# "1 to 7 are refusals", and 11 of request Six.
+REFUSALS = {1, 2, 3, 4, 5, 6, 7, 11}
 
 
 def certificate(policies=(), pairs=(), self_issued=False, skips=(None, None, None)):
@@ -70,12 +73,14 @@ KNOWN = {
     "L-0": sheet([certificate(skips=(0, None, None))]),
     "L-1": sheet([certificate(skips=(1, None, None))]),
     "M": sheet([certificate([80], skips=(1, None, None)), certificate()]),
+    "repeated-pair": sheet([certificate([70], [(1, 71), (70, 71), (1, 71)]), certificate([70, 71])]),
+    "pairs-apart": sheet([certificate([5, 8], [(5, 6), (5, 7), (8, 6), (6, 5)]), certificate([6])]),
     "eleven-certificates": sheet([certificate([5])] * 11),
     "seventeen-listed": sheet([straight(17)] * 2, users=range(100, 117)),
 }
 
 
-# What document 01 says of each, and of K document 02's request Three; the last two are within request Four's limits alone: verdict, place, counts from depth 0, authority set, user set.
+# What document 01 says of each, of K document 02's request Three, and of the pairs request Six; the last two are within request Four's limits alone: verdict, place, counts from depth 0, authority set, user set.
 ANSWERS = {
     "A": (0, 0, [1, 2, 2], [11, 12], [11, 12]),
     "B": (0, 0, [1, 2, 2, 2], [21, 22], [21, 22]),
@@ -97,18 +102,20 @@ ANSWERS = {
     "L-0": (10, 1, [], [], []),
     "L-1": (0, 0, [], [], []),
     "M": (10, 2, [], [], []),
+    "repeated-pair": (11, 0, [], [], []),
+    "pairs-apart": (0, 0, [1, 2, 1], [5, 8], [5, 8]),
     "eleven-certificates": (0, 0, [1] + [1] * 11, [5], [5]),
     "seventeen-listed": (0, 0, [1, 17, 17], list(range(100, 117)), list(range(100, 117))),
 }
 
 
 def answer(verdict, place, counts, authority, user):
-    """The lines that the program writes."""
+    """The lines that the program writes: of a refusal the first alone."""
     rows = [["verdict", verdict, "place", place], ["counts"] + counts + [0] * (CERTIFICATES + 1 - len(counts)), ["authority"] + authority, ["user"] + user]
-    return "".join(" ".join(map(str, row)) + "\n" for row in rows)
+    return "".join(" ".join(map(str, row)) + "\n" for row in (rows[:1] if verdict in REFUSALS else rows))
 
 
-def full(last_policy=None, last_subject=None):
+def full(last_policy=None, last_subject=None, last_pair_repeats=False):
     """A sheet of the greatest length: full lists everywhere, and three skip values in each certificate."""
     certificates = []
     for i in range(CERTIFICATES):
@@ -118,6 +125,8 @@ def full(last_policy=None, last_subject=None):
             policies[-1] = last_policy
         if i == CERTIFICATES - 1 and last_subject is not None:
             pairs[-1][1] = last_subject
+        if i == CERTIFICATES - 1 and last_pair_repeats:
+            pairs[-1] = pairs[0]
         certificates.append(certificate(policies, pairs, skips=(255, 255, 255)))
     return sheet(certificates, users=range(100, 100 + LISTED))
 
@@ -139,6 +148,7 @@ def test_sheets():
     assert e == bytes.fromhex("1102001E001F42000200") and len(longest) == LONGEST
     skips = [certificate([5], [(5, 6)], True, (0, None, 255)), certificate([], [(7, 8)], False, (None, 9, None))]
     last = [certificate([5])] * (CERTIFICATES - 1)
+    twice = packed(sheet([certificate([], [(5, 6), (5, 6)])], users=()))
     return {
         "case_e": (e, 0),
         "longest": (longest, 0),
@@ -163,6 +173,12 @@ def test_sheets():
         "second_policy_repeats": (packed(sheet([certificate([5, 5, 0])])), 5),
         "last_policy_repeats": (packed(full(last_policy=100)), 5),
         "zero_before_repeat": (packed(sheet([certificate([5, 0, 5])])), 4),
+        "pairs_apart": (packed(sheet([certificate([], [(5, 6), (5, 7), (8, 6), (6, 5)])])), 0),
+        "second_pair_repeats": (twice, 11),
+        "second_subject_cut_off": (twice[:-2], 1),
+        "last_pair_repeats": (packed(full(last_pair_repeats=True)), 11),
+        "repeat_names_any": (packed(sheet([certificate([70], [(1, 71), (1, 71)]), certificate([70])])), 11),
+        "zeros_repeat": (packed(sheet([certificate([], [(0, 0), (0, 0)])])), 4),
         "fill_bit": (e[:-1] + b"\x01", 6),
         "fill_bit_first": (e[:-1] + b"\x10", 6),
         "byte_too_many": (e + b"\x00", 6),

@@ -31,7 +31,8 @@
 /* Judges a sheet. Returns the number of document 01's table plus 256 times the place.
  *
  * 7, where `authority` or `user` has fewer than SKANDRULO_TABLE places or `counts` fewer than SKANDRULO_DEPTHS: nothing is written.
- * 1 to 6: the sheet is refused; both tables are as they were, and the first SKANDRULO_DEPTHS places of `counts` are 0.
+ * 1 to 6 and 11: the sheet is refused; both tables are as they were, and the first SKANDRULO_DEPTHS places of `counts` are 0. 11 is a mapping pair
+ * that repeats within one certificate, given when its second subject is read: there 1 comes first, then 4, then 11.
  * 8 and 9: both tables are all zero, and so are the counts. 9 names a certificate before the last: the last one's mappings are ignored.
  * 0 and 10: each table holds its set first, ascending with no repeats, and zeros to its end; `counts` has the number of
  * policies at each depth. Places of `counts` beyond SKANDRULO_DEPTHS are as they were.
@@ -39,7 +40,10 @@
 uint32_t skandrulo_judge_sheet(const uint8_t *sheet, size_t sheet_len, uint16_t *authority, size_t authority_len,
                                uint16_t *user, size_t user_len, uint16_t *counts, size_t counts_len);
 
-/* Reads a sheet and writes its path again. Returns the refusal, 1 to 6, or 256 times the sheet's length.
+/* Whether the judge refuses with this number: 1 for 1 to 7 and 11, and 0 for any other, a verdict. The number is what a function returned, modulo 256. */
+uint8_t skandrulo_refuses(uint8_t number);
+
+/* Reads a sheet and writes its path again. Returns the refusal, 1 to 6 or 11, or 256 times the sheet's length.
  *
  * 7, where `buffer` has fewer than SKANDRULO_SHEET_BYTES bytes, comes first. After a refusal the buffer is as it was. Otherwise it holds
  * the sheet first, the same bytes that came in, and is as it was beyond them.
@@ -68,7 +72,7 @@ uint32_t skandrulo_rewrite_sheet(const uint8_t *sheet, size_t sheet_len, uint8_t
  * Any numbers may stand in a record that is handed over. A flag that is not 0 is set, a skip value above 255 counts as 255, and
  * numbers after the record never matter. The refusals come in the sheet's field order: 3 where n or a count is out of its limits or the
  * record is too short for a head or for what a count says, 4 where a policy is 0, 5 where a policy repeats within one certificate's
- * policies.
+ * policies, 11 where a pair repeats within one certificate's pairs, at its second subject and after 4.
  */
 
 /* The places of a record's head, and of a certificate's, counted from its own start; the lists follow the head. */
@@ -91,21 +95,21 @@ enum {
 };
 
 /* Judges the path of a record. The result and the three slices are those of skandrulo_judge_sheet on the path's sheet; the refusals are
- * 7, and then 3, 4 and 5.
+ * 7, and then 3, 4, 5 and 11.
  */
 uint32_t skandrulo_judge_record(const uint16_t *record, size_t record_len, uint16_t *authority, size_t authority_len,
                                 uint16_t *user, size_t user_len, uint16_t *counts, size_t counts_len);
 
 /* Writes the sheet of a record's path. Returns the refusal, or 256 times the sheet's length.
  *
- * 7, where `buffer` has fewer than SKANDRULO_SHEET_BYTES bytes, comes first; then 3, 4 and 5. After a refusal the buffer is as it was.
+ * 7, where `buffer` has fewer than SKANDRULO_SHEET_BYTES bytes, comes first; then 3, 4, 5 and 11. After a refusal the buffer is as it was.
  * Otherwise it holds the sheet first, and is as it was beyond it.
  */
 uint32_t skandrulo_write_record(const uint16_t *record, size_t record_len, uint8_t *buffer, size_t buffer_len);
 
 /* Reads a sheet into the record of its path. Returns the refusal, or 256 times the number of places that the record takes.
  *
- * 7, where `record` has fewer than SKANDRULO_RECORD places, comes first; then 1 to 6. After a refusal the record is as it was. Otherwise
+ * 7, where `record` has fewer than SKANDRULO_RECORD places, comes first; then 1 to 6 and 11. After a refusal the record is as it was. Otherwise
  * it holds the path's record first, with flags of 0 and 1, and is as it was beyond it.
  */
 uint32_t skandrulo_read_record(const uint8_t *sheet, size_t sheet_len, uint16_t *record, size_t record_len);
@@ -136,10 +140,11 @@ enum {
  * 7, where `reg` has fewer than SKANDRULO_REGISTER bytes or `certificate` fewer than SKANDRULO_CERTIFICATE places, comes first: nothing is written.
  * 20, where the register is not as said above, comes next. Then the values are read in the order named, each from its first octet to its last, and the
  * first fault is given: 13 for anything but DER of the extension's type, a negative skip value included; 3 for an empty list of policies or pairs,
- * and beyond SKANDRULO_LISTED of them; 15 for an identifier of more than 32 octets; 14 where a new identifier is needed and 512 stand; 5 where a policy repeats.
- * Of one identifier 13 comes first, then 3, 15, 14, 5. Qualifiers are checked and dropped. A skip value above 255 is 255.
+ * and beyond SKANDRULO_LISTED of them; 15 for an identifier of more than 32 octets; 14 where a new identifier is needed and 512 stand; 5 where a policy repeats;
+ * 11 where a pair repeats, at its second subject. Of one identifier 13 comes first, then 3, 15, 14, and then 5 or 11. Qualifiers are checked and dropped. A skip
+ * value above 255 is 255.
  *
- * After 3, 5, 13, 14, 15 and 20 the register is as it was and the first SKANDRULO_CERTIFICATE places of `certificate` are 0. After 0 they hold the
+ * After 3, 5, 11, 13, 14, 15 and 20 the register is as it was and the first SKANDRULO_CERTIFICATE places of `certificate` are 0. After 0 they hold the
  * certificate as it stands in a record, and zeros after it, and each identifier that is new has the next number: its entry is written, its position
  * inserted in the order, and the number of entries raised; the other bytes of the register are as they were.
  */

@@ -95,7 +95,7 @@ module _ (c : Certificate) (rest : List ℕ) where
       (both _ _ (ap (λ d. policies-fault listed-fault [] (d .policies)) same ∙ listed-accepted (c .policies) (w .no-repeats) (λ p i. w .policies p i .some))
       (both _ _ (count-passes (pair-count xs) (omega (arith, w .mapping-count)))
       (both _ _ (short-within xs (whole xs) (omega arith))
-      (ap (λ d. mappings-fault (d .mappings)) same ∙ mappings-pass (c .mappings) (λ m i. (w .mappings m i .issuer .some, w .mappings m i .subject .some))))))))
+      (ap (λ d. mappings-fault (d .mappings)) same ∙ mappings-pass (c .mappings) (λ m i. (w .mappings m i .issuer .some, w .mappings m i .subject .some)) (w .no-pair-repeats)))))))
 
 certificates-pass : (cs : List Certificate) (rest : List ℕ) → ((c : Certificate) → In c cs → WritableCertificate c) → certificates-record-fault (length cs) (each packed-certificate cs ++ rest) ≡ 0
 unfolding each certificates-record-fault

@@ -1,4 +1,5 @@
 pub mod Numbered
 pub mod Promise
 pub mod Outcomes
+pub mod Refusals
 pub mod Exported

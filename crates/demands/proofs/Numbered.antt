@@ -1,11 +1,13 @@
--- Every outcome has one of document 01's numbers: a refusal of the sheet is 1 to 6, one of a decoded path 3 to 5, and a verdict 0, 8, 9 or 10.
+-- Every outcome has one of the judge's numbers: what a sheet, a decoded path or a short table is refused with is one that `refuses` names, and a verdict is 0, 8, 9 or 10.
 use Prim.Native.Nat.{ℕ, zero, suc, _+_, _*_, _≤_, _<_}
 use mathlib.Core.Bool.{Bool, true, false, not, _&&_, _||_}
 use mathlib.Core.List.{List, [], _∷_, _++_}
-use mathlib.Core.Path.{_≡_, refl, sym, ap, _∙_, subst}
+use mathlib.Core.Logic.{⊎-elim}
+use mathlib.Core.Path.{_≡_, refl, sym, ap, _∙_}
 use native.Mathlib.Omega.{arith}
 use lib.Dec.{eqb, ltb, leb}
 use lib.ListN.{length, take}
+use borrow.Author.Tests.{leb-true, eqb-true, ne-eqb}
 use Rattle.rules.specs.declared.Skip.{Skip}
 use Rattle.rules.specs.declared.Path.{Path as StoredPath}
 use Rattle.rules.specs.declared.Certificate.{Certificate as StoredCertificate}
@@ -22,236 +24,293 @@ use Rattle.rules.specs.Faults as Faults
 use Rattle.rules.specs.Faults.{_or-else_}
 use Rattle.rules.specs.Sheet.{Read, refused, read, _then_, checked, read-field, read-flag, read-policies, read-mappings, read-listed, read-mapped, read-skip, read-certificate, read-certificates, read-path, read-sheet, ends-at}
 use Rattle.rules.specs.Judge.{Outcome, refusal, verdict, unless-short, after-reading, sheet-judged, unless-fault, path-judged}
-use Rattle.laws.proofs.Sets.{by-cases}
+use Rattle.laws.proofs.Sets.{by-cases, clash, and-out, or-out}
 
--- the faults of a field are at most 5
+-- a fault is none, or a number that the judge refuses with
 
-abbrev pub Most : (ℕ → ℕ) → Type 0
-Most fault = (v : ℕ) → fault v ≤ Numbers.policy-repeats
+pub record Refusal (f : ℕ) : Type 0 where
+  pub known : (eqb f 0 || Numbers.refuses f) ≡ true
 
-pub pick-most : (n : ℕ) (b : Bool) (x y : ℕ) → x ≤ n → y ≤ n → pick b x y ≤ n
+abbrev pub Refusals : (ℕ → ℕ) → Type 0
+Refusals fault = (v : ℕ) → Refusal (fault v)
+
+pub pick-refusal : (b : Bool) (x y : ℕ) → Refusal x → Refusal y → Refusal (pick b x y)
 unfolding pick
-pick-most n true x y h i = h
-pick-most n false x y h i = i
+pick-refusal true x y h i = h
+pick-refusal false x y h i = i
 
-edition-most : Most Faults.edition-fault
-unfolding Faults.edition-fault
-edition-most v = pick-most _ (eqb v 1) 0 Numbers.wrong-edition (omega arith) (omega arith)
+pub refused-most : (n : ℕ) → Numbers.refuses n ≡ true → n ≤ Numbers.highest
+unfolding Numbers.refuses
+refused-most n h = ⊎-elim (λ e. let r = and-out (leb Numbers.sheet-ends n) e in omega (arith, leb-true n Numbers.table-short (r .1))) (λ e. omega (arith, eqb-true n Numbers.pair-repeats e)) (or-out (leb Numbers.sheet-ends n && leb n Numbers.table-short) h)
 
-pub n-most : Most Faults.n-fault
-unfolding Faults.n-fault
-n-most v = pick-most _ (eqb v 0 || ltb Limits.certificates v) Numbers.wrong-count 0 (omega arith) (omega arith)
+edition-refusal : Refusals Faults.edition-fault
+unfolding Faults.edition-fault Numbers.refuses
+edition-refusal v = pick-refusal (eqb v 1) 0 Numbers.wrong-edition (record { known = refl }) (record { known = refl })
 
-pub count-most : Most Faults.count-fault
-unfolding Faults.count-fault
-count-most v = pick-most _ (ltb Limits.listed v) Numbers.wrong-count 0 (omega arith) (omega arith)
+pub n-refusal : Refusals Faults.n-fault
+unfolding Faults.n-fault Numbers.refuses
+n-refusal v = pick-refusal (eqb v 0 || ltb Limits.certificates v) Numbers.wrong-count 0 (record { known = refl }) (record { known = refl })
 
-present-most : Most Faults.present-fault
-unfolding Faults.present-fault
-present-most v = pick-most _ (eqb v 0 || ltb Limits.listed v) Numbers.wrong-count 0 (omega arith) (omega arith)
+pub count-refusal : Refusals Faults.count-fault
+unfolding Faults.count-fault Numbers.refuses
+count-refusal v = pick-refusal (ltb Limits.listed v) Numbers.wrong-count 0 (record { known = refl }) (record { known = refl })
 
-policy-most : Most Faults.policy-fault
-unfolding Faults.policy-fault
-policy-most v = pick-most _ (eqb v 0) Numbers.policy-zero 0 (omega arith) (omega arith)
+present-refusal : Refusals Faults.present-fault
+unfolding Faults.present-fault Numbers.refuses
+present-refusal v = pick-refusal (eqb v 0 || ltb Limits.listed v) Numbers.wrong-count 0 (record { known = refl }) (record { known = refl })
 
-pub user-most : (before : List ℕ) → Most (Faults.user-fault before)
+policy-refusal : Refusals Faults.policy-fault
+unfolding Faults.policy-fault Numbers.refuses
+policy-refusal v = pick-refusal (eqb v 0) Numbers.policy-zero 0 (record { known = refl }) (record { known = refl })
+
+pub user-refusal : (before : List ℕ) → Refusals (Faults.user-fault before)
 unfolding Faults.user-fault
-user-most before v = policy-most v
+user-refusal before v = policy-refusal v
 
-pub listed-most : (before : List ℕ) → Most (Faults.listed-fault before)
-unfolding Faults.listed-fault
-listed-most before v =
-    pick-most _ (eqb v 0) Numbers.policy-zero (pick (v ∈ before) Numbers.policy-repeats 0) (omega arith)
-    (pick-most _ (v ∈ before) Numbers.policy-repeats 0 (omega arith) (omega arith))
+pub listed-refusal : (before : List ℕ) → Refusals (Faults.listed-fault before)
+unfolding Faults.listed-fault Numbers.refuses
+listed-refusal before v = pick-refusal (eqb v 0) Numbers.policy-zero (pick (v ∈ before) Numbers.policy-repeats 0) (record { known = refl }) (pick-refusal (v ∈ before) Numbers.policy-repeats 0 (record { known = refl }) (record { known = refl }))
 
-no-most : Most Faults.no-fault
-unfolding Faults.no-fault
-no-most v = omega arith
+pair-refusal : (before : List Mapping) (D : ℕ) → Refusals (Faults.pair-fault before D)
+unfolding Faults.pair-fault Numbers.refuses
+pair-refusal before D v =
+    pick-refusal (eqb v 0) Numbers.policy-zero (pick (Faults.pair-among D v before) Numbers.pair-repeats 0) (record { known = refl })
+    (pick-refusal (Faults.pair-among D v before) Numbers.pair-repeats 0 (record { known = refl }) (record { known = refl }))
 
--- a refusal of a reading is 1 to 6
+no-refusal : Refusals Faults.no-fault
+unfolding Faults.no-fault Numbers.refuses
+no-refusal v = record { known = refl }
 
-pub data AtMost {A : Type 0} : Read A → Type 0 where
-  refuses : (k : ℕ) → k < Numbers.not-at-end → AtMost (refused (suc k))
-  reads : {a : A} {at : ℕ} → AtMost (read a at)
+-- a reading is refused with such a number
 
-then-most : {A B : Type 0} {r : Read A} (f : A → ℕ → Read B) → AtMost r → ((a : A) (at : ℕ) → AtMost (f a at)) → AtMost (r then f)
+pub data Known {A : Type 0} : Read A → Type 0 where
+  refuses : (k : ℕ) → Numbers.refuses k ≡ true → Known (refused k)
+  reads : {a : A} {at : ℕ} → Known (read a at)
+
+then-known : {A B : Type 0} {r : Read A} (f : A → ℕ → Read B) → Known r → ((a : A) (at : ℕ) → Known (f a at)) → Known (r then f)
 unfolding _then_
-then-most f (refuses k h) g = refuses k h
-then-most f (reads {a = a} {at = at}) g = g a at
+then-known f (refuses k h) g = refuses k h
+then-known f (reads {a = a} {at = at}) g = g a at
 
-either : {A : Type 0} (b : Bool) {x y : Read A} → AtMost x → AtMost y → AtMost (pick b x y)
+either : {A : Type 0} (b : Bool) {x y : Read A} → Known x → Known y → Known (pick b x y)
 unfolding pick
 either true h i = h
 either false h i = i
 
-checked-most : (f v at : ℕ) → f ≤ Numbers.policy-repeats → AtMost (checked f v at)
+-- a fault that is not 0
+pub refusal-known : (f : ℕ) → Refusal (suc f) → Numbers.refuses (suc f) ≡ true
+refusal-known f h = sym (ap (λ b. b || Numbers.refuses (suc f)) (ne-eqb (suc f) 0 (λ e. omega arith))) ∙ h .known
+
+checked-known : (f v at : ℕ) → Refusal f → Known (checked f v at)
 unfolding checked
-checked-most zero v at h = reads
-checked-most (suc f) v at h = refuses f (omega arith)
+checked-known zero v at h = reads
+checked-known (suc f) v at h = refuses (suc f) (refusal-known f h)
 
-field-most : (s : List ℕ) (w : ℕ) (fault : ℕ → ℕ) (at : ℕ) → Most fault → AtMost (read-field s w fault at)
-unfolding read-field
-field-most s w fault at h = either (leb (at + w) (8 * length s)) (checked-most (fault (field s at w)) (field s at w) (at + w) (h (field s at w))) (refuses 0 (omega arith))
+field-known : (s : List ℕ) (w : ℕ) (fault : ℕ → ℕ) (at : ℕ) → Refusals fault → Known (read-field s w fault at)
+unfolding read-field Numbers.refuses
+field-known s w fault at h = either (leb (at + w) (8 * length s)) (checked-known (fault (field s at w)) (field s at w) (at + w) (h (field s at w))) (refuses Numbers.sheet-ends refl)
 
-flag-most : (s : List ℕ) (at : ℕ) → AtMost (read-flag s at)
+flag-known : (s : List ℕ) (at : ℕ) → Known (read-flag s at)
 unfolding read-flag
-flag-most s at = then-most _ (field-most s 1 Faults.no-fault at no-most) (λ v at. reads)
+flag-known s at = then-known _ (field-known s 1 Faults.no-fault at no-refusal) (λ v at. reads)
 
-policies-most : (s : List ℕ) (fault : List ℕ → ℕ → ℕ) → ((before : List ℕ) → Most (fault before)) → (m : ℕ) (before : List ℕ) (at : ℕ) → AtMost (read-policies s fault m before at)
+policies-known : (s : List ℕ) (fault : List ℕ → ℕ → ℕ) → ((before : List ℕ) → Refusals (fault before)) → (m : ℕ) (before : List ℕ) (at : ℕ) → Known (read-policies s fault m before at)
 unfolding read-policies
-policies-most s fault h zero before at = reads
-policies-most s fault h (suc m) before at = then-most _ (field-most s 16 (fault before) at (h before)) (λ p at. policies-most s fault h m (before ++ (p ∷ [])) at)
+policies-known s fault h zero before at = reads
+policies-known s fault h (suc m) before at = then-known _ (field-known s 16 (fault before) at (h before)) (λ p at. policies-known s fault h m (before ++ (p ∷ [])) at)
 
-mappings-most : (s : List ℕ) (m : ℕ) (before : List Mapping) (at : ℕ) → AtMost (read-mappings s m before at)
+mappings-known : (s : List ℕ) (m : ℕ) (before : List Mapping) (at : ℕ) → Known (read-mappings s m before at)
 unfolding read-mappings
-mappings-most s zero before at = reads
-mappings-most s (suc m) before at =
-    then-most _ (field-most s 16 Faults.policy-fault at policy-most) (λ D at.
-    then-most _ (field-most s 16 Faults.policy-fault at policy-most) (λ S at.
-    mappings-most s m (before ++ (record { issuer = D; subject = S } ∷ [])) at))
+mappings-known s zero before at = reads
+mappings-known s (suc m) before at =
+    then-known _ (field-known s 16 Faults.policy-fault at policy-refusal) (λ D at.
+    then-known _ (field-known s 16 (Faults.pair-fault before D) at (pair-refusal before D)) (λ S at.
+    mappings-known s m (before ++ (record { issuer = D; subject = S } ∷ [])) at))
 
-read-listed-most : (s : List ℕ) (at : ℕ) → AtMost (read-listed s at)
+read-listed-known : (s : List ℕ) (at : ℕ) → Known (read-listed s at)
 unfolding read-listed
-read-listed-most s at =
-    then-most _ (flag-most s at) (λ b at.
-    either b (then-most _ (field-most s 5 Faults.present-fault at present-most) (λ m at. policies-most s Faults.listed-fault listed-most m [] at)) reads)
+read-listed-known s at =
+    then-known _ (flag-known s at) (λ b at.
+    either b (then-known _ (field-known s 5 Faults.present-fault at present-refusal) (λ m at. policies-known s Faults.listed-fault listed-refusal m [] at)) reads)
 
-read-mapped-most : (s : List ℕ) (at : ℕ) → AtMost (read-mapped s at)
+read-mapped-known : (s : List ℕ) (at : ℕ) → Known (read-mapped s at)
 unfolding read-mapped
-read-mapped-most s at =
-    then-most _ (flag-most s at) (λ b at.
-    either b (then-most _ (field-most s 5 Faults.present-fault at present-most) (λ m at. mappings-most s m [] at)) reads)
+read-mapped-known s at =
+    then-known _ (flag-known s at) (λ b at.
+    either b (then-known _ (field-known s 5 Faults.present-fault at present-refusal) (λ m at. mappings-known s m [] at)) reads)
 
-skip-most : (s : List ℕ) (at : ℕ) → AtMost (read-skip s at)
+skip-known : (s : List ℕ) (at : ℕ) → Known (read-skip s at)
 unfolding read-skip
-skip-most s at =
-    then-most _ (flag-most s at) (λ b at. either b (then-most _ (field-most s 8 Faults.no-fault at no-most) (λ v at. reads)) reads)
+skip-known s at =
+    then-known _ (flag-known s at) (λ b at. either b (then-known _ (field-known s 8 Faults.no-fault at no-refusal) (λ v at. reads)) reads)
 
-certificate-most : (s : List ℕ) (at : ℕ) → AtMost (read-certificate s at)
+certificate-known : (s : List ℕ) (at : ℕ) → Known (read-certificate s at)
 unfolding read-certificate
-certificate-most s at =
-    then-most _ (flag-most s at) (λ b at.
-    then-most _ (read-listed-most s at) (λ ps at.
-    then-most _ (read-mapped-most s at) (λ ms at.
-    then-most _ (skip-most s at) (λ x at.
-    then-most _ (skip-most s at) (λ y at.
-    then-most _ (skip-most s at) (λ z at. reads))))))
+certificate-known s at =
+    then-known _ (flag-known s at) (λ b at.
+    then-known _ (read-listed-known s at) (λ ps at.
+    then-known _ (read-mapped-known s at) (λ ms at.
+    then-known _ (skip-known s at) (λ x at.
+    then-known _ (skip-known s at) (λ y at.
+    then-known _ (skip-known s at) (λ z at. reads))))))
 
-certificates-most : (s : List ℕ) (m : ℕ) (before : List Certificate) (at : ℕ) → AtMost (read-certificates s m before at)
+certificates-known : (s : List ℕ) (m : ℕ) (before : List Certificate) (at : ℕ) → Known (read-certificates s m before at)
 unfolding read-certificates
-certificates-most s zero before at = reads
-certificates-most s (suc m) before at = then-most _ (certificate-most s at) (λ c at. certificates-most s m (before ++ (c ∷ [])) at)
+certificates-known s zero before at = reads
+certificates-known s (suc m) before at = then-known _ (certificate-known s at) (λ c at. certificates-known s m (before ++ (c ∷ [])) at)
 
-path-most : (s : List ℕ) → AtMost (read-path s)
+path-known : (s : List ℕ) → Known (read-path s)
 unfolding read-path
-path-most s =
-    then-most _ (field-most s 4 Faults.edition-fault 0 edition-most) (λ e at.
-    then-most _ (field-most s 4 Faults.n-fault at n-most) (λ n at.
-    then-most _ (flag-most s at) (λ mi at.
-    then-most _ (flag-most s at) (λ ep at.
-    then-most _ (flag-most s at) (λ ai at.
-    then-most _ (field-most s 5 Faults.count-fault at count-most) (λ u at.
-    then-most _ (policies-most s Faults.user-fault user-most u [] at) (λ us at.
-    then-most _ (certificates-most s n [] at) (λ cs at. reads))))))))
+path-known s =
+    then-known _ (field-known s 4 Faults.edition-fault 0 edition-refusal) (λ e at.
+    then-known _ (field-known s 4 Faults.n-fault at n-refusal) (λ n at.
+    then-known _ (flag-known s at) (λ mi at.
+    then-known _ (flag-known s at) (λ ep at.
+    then-known _ (flag-known s at) (λ ai at.
+    then-known _ (field-known s 5 Faults.count-fault at count-refusal) (λ u at.
+    then-known _ (policies-known s Faults.user-fault user-refusal u [] at) (λ us at.
+    then-known _ (certificates-known s n [] at) (λ cs at. reads))))))))
 
-pub sheet-most : (s : List ℕ) → AtMost (read-sheet s)
-unfolding read-sheet
-sheet-most s = then-most _ (path-most s) (λ p at. either (ends-at s at) reads (refuses 5 (omega arith)))
+pub sheet-known : (s : List ℕ) → Known (read-sheet s)
+unfolding read-sheet Numbers.refuses
+sheet-known s = then-known _ (path-known s) (λ p at. either (ends-at s at) reads (refuses Numbers.not-at-end refl))
 
--- a verdict is at most 10
+-- a path that has a certificate gets a verdict, which is none of them
 
-conclude-most : (p : Path) (k : Counters) (g : Graph.Graph) → (Graph.conclude p k g) .verdict ≤ Numbers.user-empty
+pub data Verdict : ℕ → Type 0 where
+  is-valid : Verdict Numbers.valid
+  is-no-graph : Verdict Numbers.no-graph
+  is-any-mapped : Verdict Numbers.any-mapped
+  is-user-empty : Verdict Numbers.user-empty
+
+pub verdict-known : {v : ℕ} → Verdict v → Numbers.refuses v ≡ false
+unfolding Numbers.refuses
+verdict-known is-valid = refl
+verdict-known is-no-graph = refl
+verdict-known is-any-mapped = refl
+verdict-known is-user-empty = refl
+
+verdict-most : {v : ℕ} → Verdict v → v ≤ Numbers.highest
+verdict-most is-valid = omega arith
+verdict-most is-no-graph = omega arith
+verdict-most is-any-mapped = omega arith
+verdict-most is-user-empty = omega arith
+
+conclude-verdict : (p : Path) (k : Counters) (g : Graph.Graph) → Verdict ((Graph.conclude p k g) .verdict)
 unfolding Graph.conclude
-conclude-most p k g =
-    pick-most _ (eqb (k .explicit) 0 && empty (Graph.user-of (p .user-list) (Graph.authority-of g))) Numbers.user-empty Numbers.valid (omega arith) (omega arith)
+conclude-verdict p k g = go (eqb (k .explicit) 0 && empty (Graph.user-of (p .user-list) (Graph.authority-of g)))
+  where
+    go : (b : Bool) → Verdict (pick b Numbers.user-empty Numbers.valid)
+    go true = is-user-empty
+    go false = is-valid
 
-failed-most : (v i : ℕ) → v ≤ Numbers.user-empty → (failed v i) .verdict ≤ Numbers.user-empty
-unfolding failed
-failed-most v i h = h
-
-one-of : (b : Bool) (x y : Answer) → x .verdict ≤ Numbers.user-empty → y .verdict ≤ Numbers.user-empty → (pick b x y) .verdict ≤ Numbers.user-empty
+one-of : (b : Bool) (x y : Answer) → Verdict (x .verdict) → Verdict (y .verdict) → Verdict ((pick b x y) .verdict)
 unfolding pick
 one-of true x y h i = h
 one-of false x y h i = i
 
-run-most : (p : Path) (i : ℕ) (cs : List Certificate) (k : Counters) (g : Graph.Graph) → (Graph.run p i cs k g) .verdict ≤ Numbers.user-empty
-unfolding Graph.run
-run-most p i [] k g = failed-most Numbers.wrong-count 0 (omega arith)
-run-most p i (c ∷ cs) k g =
-    let h = Graph.add-policies (empty cs) k c g in
-    one-of (Graph.test-8 k h) _ _ (failed-most Numbers.no-graph i (omega arith))
-    (one-of (Graph.test-9 (empty cs) c) _ _ (failed-most Numbers.any-mapped i (omega arith))
-    (one-of (empty cs) _ _ (conclude-most p (at-end c k) h) (run-most p (suc i) cs (after c k) (Graph.apply-mappings k c h))))
+run-verdict : (p : Path) (i : ℕ) (c : Certificate) (cs : List Certificate) (k : Counters) (g : Graph.Graph) → Verdict ((Graph.run p i (c ∷ cs) k g) .verdict)
+unfolding Graph.run failed pick empty
+run-verdict p i c [] k g =
+    let h = Graph.add-policies true k c g in
+    one-of (Graph.test-8 k h) (failed Numbers.no-graph i) _ is-no-graph
+    (one-of (Graph.test-9 true c) (failed Numbers.any-mapped i) (Graph.conclude p (at-end c k) h) is-any-mapped (conclude-verdict p (at-end c k) h))
+run-verdict p i c (d ∷ ds) k g =
+    let h = Graph.add-policies false k c g in
+    one-of (Graph.test-8 k h) (failed Numbers.no-graph i) _ is-no-graph
+    (one-of (Graph.test-9 false c) (failed Numbers.any-mapped i) (Graph.run p (suc i) (d ∷ ds) (after c k) (Graph.apply-mappings k c h)) is-any-mapped (run-verdict p (suc i) d ds (after c k) (Graph.apply-mappings k c h)))
 
-judged-most : (p : Path) → (Graph.judged p) .verdict ≤ Numbers.user-empty
-unfolding Graph.judged
-judged-most p = run-most p 1 (p .certificates) (at-start p) Graph.start
+pub judged-verdict : (p : Path) → empty (p .certificates) ≡ false → Verdict ((Graph.judged p) .verdict)
+unfolding Graph.judged empty
+judged-verdict p e = go (p .certificates) e
+  where
+    go : (cs : List Certificate) → empty cs ≡ false → Verdict ((Graph.run p 1 cs (at-start p) Graph.start) .verdict)
+    go [] e = absurd (clash refl e)
+    go (c ∷ cs) e = run-verdict p 1 c cs (at-start p) Graph.start
+
+judged-most : (p : Path) → (Graph.judged p) .verdict ≤ Numbers.highest
+unfolding Graph.judged Graph.run failed
+judged-most p = go (p .certificates)
+  where
+    go : (cs : List Certificate) → (Graph.run p 1 cs (at-start p) Graph.start) .verdict ≤ Numbers.highest
+    go [] = omega arith
+    go (c ∷ cs) = verdict-most (run-verdict p 1 c cs (at-start p) Graph.start)
 
 -- the outcome's number
 
-refusal-most : (k : ℕ) (A U : List ℕ) → k ≤ Numbers.user-empty → (refusal k A U) .number ≤ Numbers.user-empty
+refusal-most : (k : ℕ) (A U : List ℕ) → Numbers.refuses k ≡ true → (refusal k A U) .number ≤ Numbers.highest
 unfolding refusal
-refusal-most k A U h = h
+refusal-most k A U h = refused-most k h
 
-verdict-most : (p : Path) (A U : List ℕ) → (verdict (Graph.judged p) A U) .number ≤ Numbers.user-empty
+judgement-most : (p : Path) (A U : List ℕ) → (verdict (Graph.judged p) A U) .number ≤ Numbers.highest
 unfolding verdict
-verdict-most p A U = judged-most p
+judgement-most p A U = judged-most p
 
-after-most : {r : Read Path} (A U : List ℕ) → AtMost r → (after-reading Graph.judged r A U) .number ≤ Numbers.user-empty
+after-most : {r : Read Path} (A U : List ℕ) → Known r → (after-reading Graph.judged r A U) .number ≤ Numbers.highest
 unfolding after-reading
-after-most A U (refuses k h) = refusal-most (suc k) A U (omega arith)
-after-most A U (reads {a = p}) = verdict-most p A U
+after-most A U (refuses k h) = refusal-most k A U h
+after-most A U (reads {a = p}) = judgement-most p A U
 
-pub short-most : (A U : List ℕ) (o : Outcome) → o .number ≤ Numbers.user-empty → (unless-short A U o) .number ≤ Numbers.user-empty
+pub short-known : Numbers.refuses Numbers.table-short ≡ true
+unfolding Numbers.refuses
+short-known = refl
+
+pub short-most : (A U : List ℕ) (o : Outcome) → o .number ≤ Numbers.highest → (unless-short A U o) .number ≤ Numbers.highest
 unfolding unless-short pick
-short-most A U o h = by-cases (ltb (length A) Limits.table || ltb (length U) Limits.table) (λ e. rw e (refusal-most Numbers.table-short A U (omega arith))) (λ e. rw e h)
+short-most A U o h = by-cases (ltb (length A) Limits.table || ltb (length U) Limits.table) (λ e. rw e (refusal-most Numbers.table-short A U short-known)) (λ e. rw e h)
 
-pub sheet-numbered : (s A U : List ℕ) → (sheet-judged Graph.judged s A U) .number ≤ Numbers.user-empty
+pub sheet-numbered : (s A U : List ℕ) → (sheet-judged Graph.judged s A U) .number ≤ Numbers.highest
 unfolding sheet-judged
-sheet-numbered s A U = short-most A U (after-reading Graph.judged (read-sheet s) A U) (after-most A U (sheet-most s))
+sheet-numbered s A U = short-most A U (after-reading Graph.judged (read-sheet s) A U) (after-most A U (sheet-known s))
 
 -- decoded paths
 
-pub or-most : (f g : ℕ) → f ≤ Numbers.policy-repeats → g ≤ Numbers.policy-repeats → (f or-else g) ≤ Numbers.policy-repeats
+pub or-refusal : (f g : ℕ) → Refusal f → Refusal g → Refusal (f or-else g)
 unfolding _or-else_
-or-most zero g h i = i
-or-most (suc f) g h i = h
+or-refusal zero g h i = i
+or-refusal (suc f) g h i = h
 
-pub policies-fault-most : (fault : List ℕ → ℕ → ℕ) → ((before : List ℕ) → Most (fault before)) → (before ps : List ℕ) → Faults.policies-fault fault before ps ≤ Numbers.policy-repeats
+pub policies-fault-refusal : (fault : List ℕ → ℕ → ℕ) → ((before : List ℕ) → Refusals (fault before)) → (before ps : List ℕ) → Refusal (Faults.policies-fault fault before ps)
 unfolding Faults.policies-fault
-policies-fault-most fault h before [] = omega arith
-policies-fault-most fault h before (p ∷ ps) = or-most (fault before p) _ (h before p) (policies-fault-most fault h (before ++ (p ∷ [])) ps)
+policies-fault-refusal fault h before [] = record { known = refl }
+policies-fault-refusal fault h before (p ∷ ps) = or-refusal (fault before p) _ (h before p) (policies-fault-refusal fault h (before ++ (p ∷ [])) ps)
 
-pub mappings-fault-most : (ms : List Mapping) → Faults.mappings-fault ms ≤ Numbers.policy-repeats
+pairs-fault-refusal : (before ms : List Mapping) → Refusal (Faults.pairs-fault before ms)
+unfolding Faults.pairs-fault
+pairs-fault-refusal before [] = record { known = refl }
+pairs-fault-refusal before (m ∷ ms) =
+    or-refusal (Faults.policy-fault (m .issuer)) _ (policy-refusal (m .issuer))
+    (or-refusal (Faults.pair-fault before (m .issuer) (m .subject)) _ (pair-refusal before (m .issuer) (m .subject)) (pairs-fault-refusal (before ++ (m ∷ [])) ms))
+
+pub mappings-fault-refusal : (ms : List Mapping) → Refusal (Faults.mappings-fault ms)
 unfolding Faults.mappings-fault
-mappings-fault-most [] = omega arith
-mappings-fault-most (m ∷ ms) = or-most (Faults.policy-fault (m .issuer)) _ (policy-most (m .issuer)) (or-most (Faults.policy-fault (m .subject)) _ (policy-most (m .subject)) (mappings-fault-most ms))
+mappings-fault-refusal ms = pairs-fault-refusal [] ms
 
-certificate-fault-most : (c : StoredCertificate) → Faults.certificate-fault c ≤ Numbers.policy-repeats
+certificate-fault-refusal : (c : StoredCertificate) → Refusal (Faults.certificate-fault c)
 unfolding Faults.certificate-fault
-certificate-fault-most c =
-    or-most _ _ (count-most (c .«policy_count»))
-    (or-most _ _ (policies-fault-most Faults.listed-fault listed-most [] ((certificate-of c) .policies))
-    (or-most _ _ (count-most (c .«mapping_count»)) (mappings-fault-most ((certificate-of c) .mappings))))
+certificate-fault-refusal c =
+    or-refusal _ _ (count-refusal (c .«policy_count»))
+    (or-refusal _ _ (policies-fault-refusal Faults.listed-fault listed-refusal [] ((certificate-of c) .policies))
+    (or-refusal _ _ (count-refusal (c .«mapping_count»)) (mappings-fault-refusal ((certificate-of c) .mappings))))
 
-certificates-fault-most : (cs : List StoredCertificate) → Faults.certificates-fault cs ≤ Numbers.policy-repeats
+certificates-fault-refusal : (cs : List StoredCertificate) → Refusal (Faults.certificates-fault cs)
 unfolding Faults.certificates-fault
-certificates-fault-most [] = omega arith
-certificates-fault-most (c ∷ cs) = or-most (Faults.certificate-fault c) _ (certificate-fault-most c) (certificates-fault-most cs)
+certificates-fault-refusal [] = record { known = refl }
+certificates-fault-refusal (c ∷ cs) = or-refusal (Faults.certificate-fault c) _ (certificate-fault-refusal c) (certificates-fault-refusal cs)
 
-path-fault-most : (p : StoredPath) → Faults.path-fault p ≤ Numbers.policy-repeats
+pub path-fault-refusal : (p : StoredPath) → Refusal (Faults.path-fault p)
 unfolding Faults.path-fault
-path-fault-most p =
-    or-most _ _ (n-most (p .«certificate_count»))
-    (or-most _ _ (count-most (p .«user_count»))
-    (or-most _ _ (policies-fault-most Faults.user-fault user-most [] ((path-of p) .user-list))
-    (certificates-fault-most (take (p .«certificate_count») (p .certificates)))))
+path-fault-refusal p =
+    or-refusal _ _ (n-refusal (p .«certificate_count»))
+    (or-refusal _ _ (count-refusal (p .«user_count»))
+    (or-refusal _ _ (policies-fault-refusal Faults.user-fault user-refusal [] ((path-of p) .user-list))
+    (certificates-fault-refusal (take (p .«certificate_count») (p .certificates)))))
 
-pub fault-most : (f : ℕ) (p : Path) (A U : List ℕ) → f ≤ Numbers.policy-repeats → (unless-fault f (Graph.judged p) A U) .number ≤ Numbers.user-empty
+pub fault-most : (f : ℕ) (p : Path) (A U : List ℕ) → Refusal f → (unless-fault f (Graph.judged p) A U) .number ≤ Numbers.highest
 unfolding unless-fault
-fault-most zero p A U h = verdict-most p A U
-fault-most (suc f) p A U h = refusal-most (suc f) A U (omega arith)
+fault-most zero p A U h = judgement-most p A U
+fault-most (suc f) p A U h = refusal-most (suc f) A U (refusal-known f h)
 
-pub path-numbered : (p : StoredPath) (A U : List ℕ) → (path-judged Graph.judged p A U) .number ≤ Numbers.user-empty
+pub path-numbered : (p : StoredPath) (A U : List ℕ) → (path-judged Graph.judged p A U) .number ≤ Numbers.highest
 unfolding path-judged
-path-numbered p A U = short-most A U (unless-fault (Faults.path-fault p) (Graph.judged (path-of p)) A U) (fault-most (Faults.path-fault p) (path-of p) A U (path-fault-most p))
+path-numbered p A U = short-most A U (unless-fault (Faults.path-fault p) (Graph.judged (path-of p)) A U) (fault-most (Faults.path-fault p) (path-of p) A U (path-fault-refusal p))

@@ -1,5 +1,5 @@
--- One step of the loops over pairs: whether a pair is among those left from place i, and the fault of those left after those before.
-use Prim.Native.Nat.{ℕ, suc, _+_, _<_, _≤_}
+-- A pair's fault in its two parts, and one step of the loops over pairs: whether a pair is among those before place i, and the fault of those left from there.
+use Prim.Native.Nat.{ℕ, _+_, _<_, _≤_}
 use mathlib.Core.Bool.{Bool, true, false, _&&_, _||_, or-assoc}
 use mathlib.Core.List.{List, [], _∷_, _++_}
 use mathlib.Core.Path.{_≡_, refl, sym, ap, ap₂, _∙_}
@@ -17,20 +17,14 @@ use Rattle.rules.specs.Layout.{pairs}
 use Rattle.rules.specs.Faults.{_or-else_, policy-fault, pair-among, pair-fault, pairs-fault, mappings-fault}
 use Rattle.faults.proofs.Laws.{or-else-none, or-else-fault, policy-none, policy-some, left-cons, left-none}
 
--- the fault of a pair's subject
-
-pub subject-none : (before : List Mapping) (D : ℕ) {S : ℕ} → S ≡ 0 → pair-fault before D S ≡ Numbers.policy-zero
-unfolding pair-fault pick
-subject-none before D e = ap (pair-fault before D) e
-
-module _ (before : List Mapping) (D : ℕ) {S : ℕ} (z : S ≡ 0 → ⊥) where
-  pub pair-repeats : pair-among D S before ≡ true → pair-fault before D S ≡ Numbers.pair-repeats
-  unfolding pair-fault pick
-  pair-repeats e = rw (ne-eqb S 0 z, e)
-
-  pub pair-new : pair-among D S before ≡ false → pair-fault before D S ≡ 0
-  unfolding pair-fault pick
-  pair-new e = rw (ne-eqb S 0 z, e)
+-- the fault of a pair's subject: that of a policy, or else that the pair repeats
+pub pair-parts : (before : List Mapping) (D S : ℕ) → pair-fault before D S ≡ (policy-fault S or-else pick (pair-among D S before) Numbers.pair-repeats 0)
+unfolding pair-fault policy-fault pick _or-else_
+pair-parts before D S = go (eqb S 0)
+  where
+    go : (b : Bool) → pick b Numbers.policy-zero (pick (pair-among D S before) Numbers.pair-repeats 0) ≡ (pick b Numbers.policy-zero 0 or-else pick (pair-among D S before) Numbers.pair-repeats 0)
+    go true = refl
+    go false = refl
 
 -- the pairs before place i, and one more
 

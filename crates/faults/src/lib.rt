@@ -1,8 +1,10 @@
-// The refusals of a path handed over decoded: 3, 4, 5 and 11, the first fault in the sheet's field order; and the fault of a pair, for whoever reads one.
+// The refusals of a path handed over decoded: 3, 4, 5 and 11, the first fault in the sheet's field order.
+mod pair;
+
+pub use pair::pair_fault;
 use rules::CERTIFICATES;
 use rules::Certificate;
 use rules::LISTED;
-use rules::PAIR_REPEATS;
 use rules::POLICY_REPEATS;
 use rules::POLICY_ZERO;
 use rules::Path;
@@ -14,7 +16,7 @@ ghost use lib.ListN.{length, take};
 ghost use Rattle.rules.specs.Limits as Limits;
 ghost use Rattle.rules.specs.Sets.{pick, _∈_};
 ghost use Rattle.rules.specs.Layout.{pairs};
-ghost use Rattle.rules.specs.Faults.{_or-else_, n-fault, count-fault, user-fault, listed-fault, policies-fault, pair-among, pair-fault, mappings-fault, certificate-fault, path-fault};
+ghost use Rattle.rules.specs.Faults.{_or-else_, n-fault, count-fault, user-fault, listed-fault, policies-fault, mappings-fault, certificate-fault, path-fault};
 
 // The fault of the number of certificates.
 pub fn n_fault(n: usize) -> u8
@@ -64,42 +66,6 @@ pub fn policies_fault(values: &[u16], count: usize, distinct: bool) -> u8
             }
         }
         i += 1;
-    }
-    0
-}
-
-// Whether the pair of `issuer` and `subject` is among the first `before` pairs.
-fn pair_seen(issuers: &[u16], subjects: &[u16], before: usize, issuer: u16, subject: u16) -> bool
-    requires { ⌜ before ≤ length (now issuers) ⌝ }
-    requires { ⌜ before ≤ length (now subjects) ⌝ }
-    ensures { λ r. ⌜ r ≡ pair-among issuer subject (pairs (take before (now (issuers .entry))) (take before (now (subjects .entry)))) ⌝ }
-{
-    let mut found = false;
-    let mut i = 0;
-    while i < before {
-        let d = issuers[i];
-        let s = subjects[i];
-        if d == issuer {
-            if s == subject {
-                found = true;
-            }
-        }
-        i += 1;
-    }
-    found
-}
-
-// The fault of a pair's subject, after its issuer and the first `before` pairs: that it is 0, or else that the pair repeats.
-pub fn pair_fault(issuers: &[u16], subjects: &[u16], before: usize, issuer: u16, subject: u16) -> u8
-    requires { ⌜ before ≤ length (now issuers) ⌝ }
-    requires { ⌜ before ≤ length (now subjects) ⌝ }
-    ensures { λ r. ⌜ r ≡ pair-fault (pairs (take before (now (issuers .entry))) (take before (now (subjects .entry)))) issuer subject ⌝ }
-{
-    if subject == 0 {
-        return POLICY_ZERO;
-    }
-    if pair_seen(issuers, subjects, before, issuer, subject) {
-        return PAIR_REPEATS;
     }
     0
 }

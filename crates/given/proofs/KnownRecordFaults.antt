@@ -51,8 +51,10 @@ rows =
     ∷ row 2 1 (30 ∷ []) (good ++ good) 0
     -- no fault: any flag and any skip value
     ∷ record { numbers = 1 ∷ 2 ∷ 65535 ∷ 256 ∷ 0 ∷ 7 ∷ 0 ∷ 0 ∷ 65535 ∷ 257 ∷ 256 ∷ []; fault = 0 }
-    -- no fault: repeats among user policies and pairs, and of a policy in two certificates
-    ∷ row 2 2 (30 ∷ 30 ∷ []) (listing 1 2 (5 ∷ 5 ∷ 5 ∷ 6 ∷ 6 ∷ []) ++ good) 0
+    -- no fault: repeats among user policies, and of a policy and a pair in two certificates
+    ∷ row 2 2 (30 ∷ 30 ∷ []) (good ++ good) 0
+    -- no fault: pairs of the same issuer and another subject, of the same subject and another issuer, and with their policies exchanged
+    ∷ row 1 0 [] (listing 0 4 (5 ∷ 5 ∷ 8 ∷ 6 ∷ 6 ∷ 7 ∷ 6 ∷ 5 ∷ [])) 0
     -- no fault: as many certificates as a path may have, and full lists
     ∷ row certificates listed full (alike certificates (listing listed listed (full ++ full ++ full))) 0
     -- an empty record, and one of four numbers
@@ -95,8 +97,17 @@ rows =
     -- a policy repeated, and one not next to itself
     ∷ row 1 0 [] (listing 2 0 (5 ∷ 5 ∷ [])) 5
     ∷ row 1 0 [] (listing 3 0 (5 ∷ 6 ∷ 5 ∷ [])) 5
+    -- a pair repeated, next to itself, as the last pair, and not the first one
+    ∷ row 1 0 [] (listing 0 2 (5 ∷ 5 ∷ 6 ∷ 6 ∷ [])) 11
+    ∷ row 1 0 [] (listing 0 3 (5 ∷ 7 ∷ 5 ∷ 6 ∷ 8 ∷ 6 ∷ [])) 11
+    ∷ row 1 0 [] (listing 0 3 (7 ∷ 5 ∷ 5 ∷ 8 ∷ 6 ∷ 6 ∷ [])) 11
+    -- a pair repeated that names anyPolicy
+    ∷ row 2 0 [] (listing 1 2 (70 ∷ 1 ∷ 1 ∷ 71 ∷ 71 ∷ []) ++ good) 11
+    -- the pair of 0 and 0 twice
+    ∷ row 1 0 [] (listing 0 2 (0 ∷ 0 ∷ 0 ∷ 0 ∷ [])) 4
     -- a fault of the last certificate, after the lists of the first
     ∷ row 2 0 [] (good ++ listing 2 0 (5 ∷ 5 ∷ [])) 5
+    ∷ row 2 0 [] (good ++ listing 0 2 (5 ∷ 5 ∷ 6 ∷ 6 ∷ [])) 11
     -- two faults: n before the user policies, 0 and too many
     ∷ row 0 1 (0 ∷ []) [] 3
     ∷ row (suc certificates) 1 (0 ∷ []) (alike (suc certificates) good) 3
@@ -129,6 +140,14 @@ rows =
     ∷ row 1 0 [] (listing 2 1 (5 ∷ 5 ∷ 0 ∷ 0 ∷ [])) 5
     -- two faults: the pairs' count before the pairs
     ∷ row 1 0 [] (listing 0 many (many-pairs 0)) 3
+    -- two faults: a subject 0 before a pair repeated after it, and a pair repeated before a subject 0 after it
+    ∷ row 1 0 [] (listing 0 3 (5 ∷ 5 ∷ 5 ∷ 0 ∷ 6 ∷ 6 ∷ [])) 4
+    ∷ row 1 0 [] (listing 0 3 (5 ∷ 5 ∷ 7 ∷ 6 ∷ 6 ∷ 0 ∷ [])) 11
+    -- two faults: the policies before a pair repeated, and it before certificate 2 that is too short
+    ∷ row 1 0 [] (listing 2 2 (5 ∷ 5 ∷ 5 ∷ 5 ∷ 6 ∷ 6 ∷ [])) 5
+    ∷ row 2 0 [] (listing 0 2 (5 ∷ 5 ∷ 6 ∷ 6 ∷ [])) 11
+    -- two faults: pairs too few before a pair repeated
+    ∷ row 1 0 [] (listing 0 3 (5 ∷ 5 ∷ 5 ∷ 6 ∷ 6 ∷ [])) 3
     -- two faults: pairs too few before an issuer 0 and before a subject 0
     ∷ row 1 0 [] (listing 0 2 (0 ∷ 5 ∷ 6 ∷ [])) 3
     ∷ row 1 0 [] (listing 0 2 (5 ∷ 5 ∷ 0 ∷ [])) 3

@@ -47,16 +47,18 @@ rows =
     -- 8 and 9: both tables and the counts are all zero
     ∷ verdict record-D table (table + 1) 8 1 [] [] []
     ∷ verdict record-mapped (table + 1) table 9 1 [] [] []
-    -- the refusals 3, 4 and 5 leave both tables
+    -- the refusals 3, 4, 5 and 11 leave both tables
     ∷ refusal [] table (table + 1) 3
     ∷ refusal (given 1 1 (0 ∷ []) (listing 0 0 [])) table (table + 1) 4
     ∷ refusal (given 1 0 [] (listing 2 0 (5 ∷ 5 ∷ []))) table (table + 1) 5
+    ∷ refusal (given 2 0 [] (listing 1 2 (70 ∷ 1 ∷ 1 ∷ 71 ∷ 71 ∷ []) ++ listing 1 0 (70 ∷ []))) (table + 1) table 11
     -- 7: a table one place short
     ∷ refusal record-E (table - 1) table 7
     ∷ refusal record-E table (table - 1) 7
     -- 7 before the record's own refusals
     ∷ refusal [] (table - 1) table 7
     ∷ refusal (given 1 0 [] (listing 2 0 (5 ∷ 5 ∷ []))) table (table - 1) 7
+    ∷ refusal (given 1 0 [] (listing 0 2 (5 ∷ 5 ∷ 6 ∷ 6 ∷ []))) (table - 1) table 7
     ∷ []
 
 pub record Said : Type 0 where
@@ -100,6 +102,7 @@ export-rows =
     ∷ export-row [] table (table + 1) (depths + 1) 3 (replicate table 7) (replicate (table + 1) 8) (filled depths 0 [] ++ 9 ∷ [])
     ∷ export-row (given 1 1 (0 ∷ []) (listing 0 0 [])) (table + 1) table depths 4 (replicate (table + 1) 7) (replicate table 8) (replicate depths 0)
     ∷ export-row (given 1 0 [] (listing 2 0 (5 ∷ 5 ∷ []))) table table depths 5 (replicate table 7) (replicate table 8) (replicate depths 0)
+    ∷ export-row (given 1 0 [] (listing 0 2 (5 ∷ 5 ∷ 6 ∷ 6 ∷ []))) table table depths 11 (replicate table 7) (replicate table 8) (replicate depths 0)
     -- 7 for C: nothing is written; an authority table, a user table and counts one place short
     ∷ unchanged record-E (table - 1) table depths 7
     ∷ unchanged record-E table (table - 1) depths 7

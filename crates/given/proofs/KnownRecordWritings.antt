@@ -7,7 +7,7 @@ use lib.ListN.{replicate}
 use Rattle.rules.specs.Limits.{sheet-bytes}
 use Rattle.rules.specs.Sheet.{Written}
 use Rattle.rules.specs.Face.{Rewritten}
-use Rattle.rules.proofs.Notation.{filled, sheet-E}
+use Rattle.rules.proofs.Notation.{filled, sheet-E, sheet-repeated}
 use Rattle.record.specs.Record.{flag-number, skip-number, most-places}
 use Rattle.given.specs.Face.{record-written, write-exported, Recorded, sheet-recorded}
 use Rattle.given.proofs.Notation.{given, listing, record-E}
@@ -41,14 +41,16 @@ rows =
     ∷ row (1 ∷ 0 ∷ 0 ∷ 0 ∷ 0 ∷ 0 ∷ 0 ∷ 0 ∷ 257 ∷ 300 ∷ 65535 ∷ []) sheet-bytes 0 6 (filled sheet-bytes 170 (0x11 ∷ 0x00 ∷ 0x1F ∷ 0xFF ∷ 0xFF ∷ 0xFC ∷ []))
     -- a buffer one byte short: 7, the buffer unchanged
     ∷ refusal record-E (sheet-bytes - 1) 7
-    -- 7 before the record's refusals 3, 4 and 5
+    -- 7 before the record's refusals 3, 4, 5 and 11
     ∷ refusal [] (sheet-bytes - 1) 7
     ∷ refusal (given 1 1 (0 ∷ []) (listing 0 0 [])) (sheet-bytes - 1) 7
     ∷ refusal (given 1 0 [] (listing 2 0 (5 ∷ 5 ∷ []))) 0 7
-    -- the record's refusals 3, 4 and 5: the buffer unchanged
+    ∷ refusal (given 1 0 [] (listing 0 2 (5 ∷ 5 ∷ 6 ∷ 6 ∷ []))) (sheet-bytes - 1) 7
+    -- the record's refusals 3, 4, 5 and 11: the buffer unchanged
     ∷ refusal [] sheet-bytes 3
     ∷ refusal (given 1 1 (0 ∷ []) (listing 0 0 [])) sheet-bytes 4
     ∷ refusal (given 1 0 [] (listing 2 0 (5 ∷ 5 ∷ []))) sheet-bytes 5
+    ∷ refusal (given 1 0 [] (listing 0 2 (5 ∷ 5 ∷ 6 ∷ 6 ∷ []))) sheet-bytes 11
     ∷ []
 
 -- Every record is written, or refused, as expected.
@@ -85,7 +87,7 @@ read-row : List ℕ → ℕ → ℕ → List ℕ → ReadRow
 read-row s m k R′ = record { sheet = s; lent = replicate m 9; recorded = record { result = k; places = R′ } }
 
 unfoldable pub read-rows : List ReadRow
-unfolding read-row filled sheet-E record-E
+unfolding read-row filled sheet-E record-E sheet-repeated
 read-rows =
     -- case E's record first, 256 times its 14 places, and every later place unchanged
     read-row sheet-E most-places 3584 (filled most-places 9 record-E)
@@ -101,6 +103,7 @@ read-rows =
     ∷ read-row [] most-places 1 (replicate most-places 9)
     ∷ read-row (0x21 ∷ []) most-places 2 (replicate most-places 9)
     ∷ read-row (0x11 ∷ 0x02 ∷ 0x00 ∷ 0x1E ∷ 0x00 ∷ 0x1F ∷ 0x42 ∷ 0x00 ∷ 0x02 ∷ 0x01 ∷ []) most-places 6 (replicate most-places 9)
+    ∷ read-row sheet-repeated most-places 11 (replicate most-places 9)
     -- a record one place short: 7, the record unchanged
     ∷ read-row sheet-E (most-places - 1) 7 (replicate (most-places - 1) 9)
     -- 7 before the sheet's own refusals

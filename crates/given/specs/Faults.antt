@@ -1,4 +1,4 @@
--- The refusals of a record handed over from C: 3, 4 and 5 in the sheet's field order, and 3 at a count, or a head, that the record is too short for.
+-- The refusals of a record handed over from C: 3, 4, 5 and 11 in the sheet's field order, and 3 at a count, or a head, that the record is too short for.
 use Prim.Native.Nat.{ℕ, zero, suc, _+_}
 use mathlib.Core.List.{List, []}
 use lib.Dec.{ltb}

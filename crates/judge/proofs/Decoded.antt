@@ -34,7 +34,7 @@ decoded-settled p z = go (p .certificates) refl
 -- the four promises of the judge on decoded paths
 abbrev pub Promised : StoredPath → List ℕ → List ℕ → StoredAnswer → List ℕ → List ℕ → Type 0
 Promised p A U r A′ U′ =
-    (r .number ≤ Numbers.user-empty)
+    (r .number ≤ Numbers.highest)
     × ((outcome r A′ U′ ≡ path-judged Graph.judged p A U)
     × ((outcome r A′ U′ ≡ path-judged Tree.judged p A U)
     × Bounded (r .counts) (path-of p)))
@@ -42,7 +42,7 @@ Promised p A U r A′ U′ =
 -- the graph's equation gives all four
 pub promised : (p : StoredPath) (A U : List ℕ) (r : StoredAnswer) (A′ U′ : List ℕ) → outcome r A′ U′ ≡ path-judged Graph.judged p A U → Promised p A U r A′ U′
 promised p A U r A′ U′ e = (
-  subst (λ n. n ≤ Numbers.user-empty) (sym (ap (λ o. o .number) e) ∙ outcome-number r A′ U′) (path-numbered p A U),
+  subst (λ n. n ≤ Numbers.highest) (sym (ap (λ o. o .number) e) ∙ outcome-number r A′ U′) (path-numbered p A U),
   (
     e,
     (

@@ -25,7 +25,7 @@ sheet-settled s p at e = well-formed-settled p (well-formed p (read-writable s p
 -- the four promises of the judge on sheets
 abbrev pub Promised : List ℕ → List ℕ → List ℕ → StoredAnswer → List ℕ → List ℕ → Type 0
 Promised s A U r A′ U′ =
-    (r .number ≤ Numbers.user-empty)
+    (r .number ≤ Numbers.highest)
     × ((outcome r A′ U′ ≡ sheet-judged Graph.judged s A U)
     × ((outcome r A′ U′ ≡ sheet-judged Tree.judged s A U)
     × ((p : Path) (at : ℕ) → read-sheet s ≡ read p at → Bounded (r .counts) p)))
@@ -33,7 +33,7 @@ Promised s A U r A′ U′ =
 -- the graph's equation gives all four
 pub promised : (s A U : List ℕ) (r : StoredAnswer) (A′ U′ : List ℕ) → outcome r A′ U′ ≡ sheet-judged Graph.judged s A U → Promised s A U r A′ U′
 promised s A U r A′ U′ e = (
-  subst (λ n. n ≤ Numbers.user-empty) (sym (ap (λ o. o .number) e) ∙ outcome-number r A′ U′) (sheet-numbered s A U),
+  subst (λ n. n ≤ Numbers.highest) (sym (ap (λ o. o .number) e) ∙ outcome-number r A′ U′) (sheet-numbered s A U),
   (
     e,
     (

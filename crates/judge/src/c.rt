@@ -5,6 +5,8 @@ ghost use Prim.Native.Nat.{_≤_, _<_};
 ghost use lib.Dec.{eqb};
 ghost use lib.ListN.{length};
 ghost use Rattle.rules.specs.Limits as Limits;
+ghost use Rattle.rules.specs.Numbers as Numbers;
+ghost use Rattle.rules.specs.Sets.{pick};
 ghost use Rattle.rules.specs.Face.{Judged, sheet-exported, Rewritten, sheet-rewritten};
 ghost use Rattle.reader.specs.Room.{RoomFor};
 ghost use Rattle.extension_rules.specs.Face.{Lent, extensions-read};
@@ -45,6 +47,17 @@ pub extern "C" fn skandrulo_judge_sheet(
     let found = answer.counts;
     sets::copy(counts, 0, &found);
     (answer.number as u32) + 256 * (answer.place as u32)
+}
+
+// Whether the judge refuses with this number, 1, or not, 0.
+#[no_mangle]
+pub extern "C" fn skandrulo_refuses(number: u8) -> u8
+    ensures { λ r. ⌜ r ≡ pick (Numbers.refuses number) 1 0 ⌝ }
+{
+    if demands::refuses(number) {
+        return 1;
+    }
+    0
 }
 
 // A sheet read into a lent record, and its path written again; the buffer is long enough. What the record then holds is left free.

@@ -18,6 +18,7 @@ pub use c::skandrulo_judge_record;
 pub use c::skandrulo_judge_sheet;
 pub use c::skandrulo_read_extensions;
 pub use c::skandrulo_read_record;
+pub use c::skandrulo_refuses;
 pub use c::skandrulo_rewrite_sheet;
 pub use c::skandrulo_write_record;
 use reader::certificates_named;
@@ -61,7 +62,7 @@ fn judge_in(sheet: &[u8], rec: &mut [u16], authority: &mut [u16], user: &mut [u1
 // Demand 2: number, place, counts and both tables are those of RFC 9618's graph.
 // Demand 3: they are those of RFC 5280's tree too, and the counts keep the bound.
 pub fn judge_sheet(sheet: &[u8], authority: &mut [u16], user: &mut [u16]) -> Answer
-    ensures demand_1 { λ r. ⌜ r .number ≤ Numbers.user-empty ⌝ }
+    ensures demand_1 { λ r. ⌜ r .number ≤ Numbers.highest ⌝ }
     ensures demand_2 { λ r. ⌜ outcome r (now (authority .exit)) (now (user .exit)) ≡ sheet-judged Graph.judged (now (sheet .entry)) (now (authority .entry)) (now (user .entry)) ⌝ }
     ensures demand_3 { λ r. ⌜ outcome r (now (authority .exit)) (now (user .exit)) ≡ sheet-judged Tree.judged (now (sheet .entry)) (now (authority .entry)) (now (user .entry)) ⌝ }
     ensures demand_3_bound { λ r. ⌜ ((p : RulesPath) (at : ℕ) → read-sheet (now (sheet .entry)) ≡ read p at → Bounded (r .counts) p) ⌝ }
@@ -80,9 +81,9 @@ pub fn judge_sheet(sheet: &[u8], authority: &mut [u16], user: &mut [u16]) -> Ans
     judge_in(sheet, &mut rec, authority, user)
 }
 
-// The judge on a path handed over decoded, with the same promises; its refusals are 7, then 3, 4 and 5.
+// The judge on a path handed over decoded, with the same promises; its refusals are 7, then 3, 4, 5 and 11.
 pub fn judge_path(path: Path, authority: &mut [u16], user: &mut [u16]) -> Answer
-    ensures demand_1 { λ r. ⌜ r .number ≤ Numbers.user-empty ⌝ }
+    ensures demand_1 { λ r. ⌜ r .number ≤ Numbers.highest ⌝ }
     ensures demand_2 { λ r. ⌜ outcome r (now (authority .exit)) (now (user .exit)) ≡ path-judged Graph.judged path (now (authority .entry)) (now (user .entry)) ⌝ }
     ensures demand_3 { λ r. ⌜ outcome r (now (authority .exit)) (now (user .exit)) ≡ path-judged Tree.judged path (now (authority .entry)) (now (user .entry)) ⌝ }
     ensures demand_3_bound { λ r. ⌜ Bounded (r .counts) (path-of path) ⌝ }

@@ -48,7 +48,7 @@ fn report(answer: Answer, authority: &[u16], user: &[u16]) {
     text(b" place ");
     number(answer.place as u64);
     text(b"\n");
-    if 1 <= answer.number && answer.number <= 7 {
+    if demands::refuses(answer.number) {
         return;
     }
     let counts = answer.counts;

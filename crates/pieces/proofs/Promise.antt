@@ -60,7 +60,7 @@ whole judged pieces A U = ap (λ s. sheet-judged judged s A U) (held-after piece
 
 -- an outcome that meets the three demands on a sheet
 pub record Demands (s A U : List ℕ) (o : Outcome) : Type 0 where
-  pub demand-1 : o .number ≤ Numbers.user-empty
+  pub demand-1 : o .number ≤ Numbers.highest
   pub demand-2 : o ≡ sheet-judged Graph.judged s A U
   pub demand-3 : o ≡ sheet-judged Tree.judged s A U
   pub demand-3-bound : (p : Path) (at : ℕ) → read-sheet s ≡ read p at → Bounded (o .counts) p

@@ -22,7 +22,7 @@ pub fn feed_in_place(state: &mut State, piece: &[u8])
 
 // Finishes the sheet: the answer and the tables are those of `finish`, and so is the state then.
 pub fn finish_in_place(state: &mut State, authority: &mut [u16], user: &mut [u16]) -> Answer
-    ensures demand_1 { λ r. ⌜ r .number ≤ Numbers.user-empty ⌝ }
+    ensures demand_1 { λ r. ⌜ r .number ≤ Numbers.highest ⌝ }
     ensures demand_2 { λ r. ⌜ outcome r (now (authority .exit)) (now (user .exit)) ≡ finished Graph.judged (now (state .entry)) (now (authority .entry)) (now (user .entry)) ⌝ }
     ensures demand_3 { λ r. ⌜ outcome r (now (authority .exit)) (now (user .exit)) ≡ finished Tree.judged (now (state .entry)) (now (authority .entry)) (now (user .entry)) ⌝ }
     ensures demand_3_bound { λ r. ⌜ ((p : RulesPath) (at : ℕ) → read-sheet (held (now (state .entry))) ≡ read p at → Bounded (r .counts) p) ⌝ }

@@ -61,7 +61,7 @@ pub fn feed(state: State, piece: &[u8]) -> State
 // Finishes the sheet: the judge's answer on the bytes that the state holds, and a fresh state.
 // Demands 1 to 3 are those of `judge::judge_sheet`, 7 first.
 pub fn finish(state: State, authority: &mut [u16], user: &mut [u16]) -> Finished
-    ensures demand_1 { λ r. ⌜ r .answer .number ≤ Numbers.user-empty ⌝ }
+    ensures demand_1 { λ r. ⌜ r .answer .number ≤ Numbers.highest ⌝ }
     ensures demand_2 { λ r. ⌜ outcome (r .answer) (now (authority .exit)) (now (user .exit)) ≡ finished Graph.judged state (now (authority .entry)) (now (user .entry)) ⌝ }
     ensures demand_3 { λ r. ⌜ outcome (r .answer) (now (authority .exit)) (now (user .exit)) ≡ finished Tree.judged state (now (authority .entry)) (now (user .entry)) ⌝ }
     ensures demand_3_bound { λ r. ⌜ ((p : RulesPath) (at : ℕ) → read-sheet (held state) ≡ read p at → Bounded (r .answer .counts) p) ⌝ }

@@ -2,7 +2,6 @@
 use Prim.Native.Nat.{ℕ, zero, suc, _+_, _≤_, _<_}
 use mathlib.Core.List.{List, []}
 use mathlib.Core.Path.{_≡_, refl, sym, ap, _∙_, subst}
-use native.Mathlib.Omega.{arith}
 use lib.Dec.{ltb}
 use lib.ListN.{length, drop, getD}
 use Rattle.rules.specs.declared.Answer.{Answer as StoredAnswer}
@@ -23,43 +22,43 @@ use Rattle.given.specs.Face.{after-faults, record-judged, record-exported}
 use Rattle.graph.specs.Sound.{Sound}
 use Rattle.graph.proofs.Fits as fits
 use Rattle.accept.proofs.Given.{given-few, given-well-formed}
-use Rattle.demands.proofs.Numbered.{pick-most, n-most, count-most, user-most, listed-most, or-most, policies-fault-most, mappings-fault-most, fault-most, short-most}
+use Rattle.demands.proofs.Numbered.{Refusal, pick-refusal, n-refusal, count-refusal, user-refusal, listed-refusal, or-refusal, policies-fault-refusal, mappings-fault-refusal, fault-most, short-most}
 use Rattle.demands.proofs.Promise.{outcome-number, outcome-counts, Settled, well-formed-settled, unless-short-all, bounded-refusal, fault-tree, fault-bounded}
 use Rattle.demands.proofs.Outcomes as outcomes
 use Rattle.demands.proofs.Exported.{export}
 
--- a record's refusal is at most 5
+-- a record's refusal is none, or a number that the judge refuses with
 
-short-fault-most : (xs : List ℕ) (k : ℕ) → short-fault xs k ≤ Numbers.policy-repeats
-unfolding short-fault
-short-fault-most xs k = pick-most _ (ltb (length xs) k) Numbers.wrong-count 0 (omega arith) (omega arith)
+short-fault-refusal : (xs : List ℕ) (k : ℕ) → Refusal (short-fault xs k)
+unfolding short-fault Numbers.refuses
+short-fault-refusal xs k = pick-refusal (ltb (length xs) k) Numbers.wrong-count 0 (record { known = refl }) (record { known = refl })
 
-certificate-most : (xs : List ℕ) → certificate-record-fault xs ≤ Numbers.policy-repeats
+certificate-refusal : (xs : List ℕ) → Refusal (certificate-record-fault xs)
 unfolding certificate-record-fault
-certificate-most xs =
+certificate-refusal xs =
     let p = getD xs 1 0 in
     let m = getD xs 2 0 in
-    or-most _ _ (short-fault-most xs certificate-head-places)
-    (or-most _ _ (count-most p)
-    (or-most _ _ (short-fault-most xs (certificate-head-places + p))
-    (or-most _ _ (policies-fault-most Faults.listed-fault listed-most [] ((unpacked-certificate xs) .policies))
-    (or-most _ _ (count-most m)
-    (or-most _ _ (short-fault-most xs (certificate-head-places + p + m + m)) (mappings-fault-most ((unpacked-certificate xs) .mappings)))))))
+    or-refusal _ _ (short-fault-refusal xs certificate-head-places)
+    (or-refusal _ _ (count-refusal p)
+    (or-refusal _ _ (short-fault-refusal xs (certificate-head-places + p))
+    (or-refusal _ _ (policies-fault-refusal Faults.listed-fault listed-refusal [] ((unpacked-certificate xs) .policies))
+    (or-refusal _ _ (count-refusal m)
+    (or-refusal _ _ (short-fault-refusal xs (certificate-head-places + p + m + m)) (mappings-fault-refusal ((unpacked-certificate xs) .mappings)))))))
 
-certificates-most : (n : ℕ) (xs : List ℕ) → certificates-record-fault n xs ≤ Numbers.policy-repeats
+certificates-refusal : (n : ℕ) (xs : List ℕ) → Refusal (certificates-record-fault n xs)
 unfolding certificates-record-fault
-certificates-most zero xs = omega arith
-certificates-most (suc n) xs = or-most _ _ (certificate-most xs) (certificates-most n (after-certificate xs))
+certificates-refusal zero xs = record { known = refl }
+certificates-refusal (suc n) xs = or-refusal _ _ (certificate-refusal xs) (certificates-refusal n (after-certificate xs))
 
-pub record-fault-most : (r : List ℕ) → record-fault r ≤ Numbers.policy-repeats
+pub record-fault-refusal : (r : List ℕ) → Refusal (record-fault r)
 unfolding record-fault
-record-fault-most r =
+record-fault-refusal r =
     let u = getD r 4 0 in
-    or-most _ _ (short-fault-most r head-places)
-    (or-most _ _ (n-most (getD r 0 0))
-    (or-most _ _ (count-most u)
-    (or-most _ _ (short-fault-most r (head-places + u))
-    (or-most _ _ (policies-fault-most Faults.user-fault user-most [] ((unpacked r) .user-list)) (certificates-most (getD r 0 0) (drop u (drop head-places r)))))))
+    or-refusal _ _ (short-fault-refusal r head-places)
+    (or-refusal _ _ (n-refusal (getD r 0 0))
+    (or-refusal _ _ (count-refusal u)
+    (or-refusal _ _ (short-fault-refusal r (head-places + u))
+    (or-refusal _ _ (policies-fault-refusal Faults.user-fault user-refusal [] ((unpacked r) .user-list)) (certificates-refusal (getD r 0 0) (drop u (drop head-places r)))))))
 
 -- the record of a path handed over, as the engine and the writer ask for it
 pub accepted : (r s t : List ℕ) (n : ℕ) → record-fault r ≡ 0 → Starts s (packed (path-given r)) t n → length t < 65536 → Sound t n × (unpacked t ≡ path-given r)
@@ -76,9 +75,9 @@ module _ (r A U : List ℕ) where
   unfolding record-judged after-faults
   judged-is = refl
 
-  numbered : (record-judged Graph.judged r A U) .number ≤ Numbers.user-empty
+  numbered : (record-judged Graph.judged r A U) .number ≤ Numbers.highest
   unfolding record-judged after-faults
-  numbered = short-most A U after (fault-most (record-fault r) (path-given r) A U (record-fault-most r))
+  numbered = short-most A U after (fault-most (record-fault r) (path-given r) A U (record-fault-refusal r))
 
   tree : record-judged Graph.judged r A U ≡ record-judged Tree.judged r A U
   unfolding record-judged after-faults
@@ -94,7 +93,7 @@ module _ (r A U : List ℕ) where
   -- the four promises of the judge on records
   abbrev pub Promised : StoredAnswer → List ℕ → List ℕ → Type 0
   Promised x A′ U′ =
-      (x .number ≤ Numbers.user-empty)
+      (x .number ≤ Numbers.highest)
       × ((outcome x A′ U′ ≡ record-judged Graph.judged r A U)
       × ((outcome x A′ U′ ≡ record-judged Tree.judged r A U)
       × Bounded (x .counts) (path-given r)))
@@ -102,7 +101,7 @@ module _ (r A U : List ℕ) where
   -- the graph's equation gives all four
   pub promised : (x : StoredAnswer) (A′ U′ : List ℕ) → outcome x A′ U′ ≡ record-judged Graph.judged r A U → Promised x A′ U′
   promised x A′ U′ e = (
-    subst (λ n. n ≤ Numbers.user-empty) (sym (ap (λ o. o .number) e) ∙ outcome-number x A′ U′) numbered,
+    subst (λ n. n ≤ Numbers.highest) (sym (ap (λ o. o .number) e) ∙ outcome-number x A′ U′) numbered,
     (e, (e ∙ tree, subst (λ ns. Bounded ns (path-given r)) (sym (ap (λ o. o .counts) e) ∙ outcome-counts x A′ U′) bounded)),
   )
 

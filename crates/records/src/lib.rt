@@ -56,7 +56,7 @@ fn judge_in(given: &[u16], rec: &mut [u16], authority: &mut [u16], user: &mut [u
 
 // The judge on a path handed over as a record, with the three demands; its refusals are 7, then 3, 4 and 5.
 pub fn judge_record(given: &[u16], authority: &mut [u16], user: &mut [u16]) -> Answer
-    ensures demand_1 { λ r. ⌜ r .number ≤ Numbers.user-empty ⌝ }
+    ensures demand_1 { λ r. ⌜ r .number ≤ Numbers.highest ⌝ }
     ensures demand_2 { λ r. ⌜ outcome r (now (authority .exit)) (now (user .exit)) ≡ record-judged Graph.judged (now (given .entry)) (now (authority .entry)) (now (user .entry)) ⌝ }
     ensures demand_3 { λ r. ⌜ outcome r (now (authority .exit)) (now (user .exit)) ≡ record-judged Tree.judged (now (given .entry)) (now (authority .entry)) (now (user .entry)) ⌝ }
     ensures demand_3_bound { λ r. ⌜ Bounded (r .counts) (path-given (now (given .entry))) ⌝ }

@@ -1,24 +1,31 @@
--- `faults::pair_seen` meets its contract. The loop's invariant: whether the pair is among the places passed. The measure is the places left.
+-- `faults::pair::repeat_fault` meets its contract. The loop's invariant: whether the pair is among the places passed. The measure is the places left.
 use Prim.Native.Nat.{_≤_, _<_, _-_}
 use native.Mathlib.Omega.{arith}
 use mathlib.Core.Logic.{⊎-elim}
-use mathlib.Core.Path.{_≡_, sym, _∙_}
+use mathlib.Core.Bool.{Bool}
+use mathlib.Core.Path.{_≡_, sym, ap, _∙_}
 use lib.ListN.{length, take}
+use Rattle.rules.specs.Numbers as Numbers
+use Rattle.rules.specs.Sets.{pick}
 use Rattle.rules.specs.Layout.{pairs}
 use Rattle.rules.specs.Faults.{pair-among}
 use Rattle.faults.proofs.Pairs.{among-none, among-here, among-other-issuer, among-other-subject}
-use Rattle.faults.proofs.pair_seen.Statement.{statement}
-use Rattle.faults.proofs.pair_seen.Tie as tie
+use Rattle.faults.proofs.pair.repeat_fault.Statement.{statement}
+use Rattle.faults.proofs.pair.repeat_fault.Tie as tie
 
 abbrev Inv-loop : tie.InvT-loop
-Inv-loop issuers subjects before issuer subject found₀ i₀ found i = (i ≤ before) × (found ≡ pair-among issuer subject (pairs (take i issuers) (take i subjects)))
+Inv-loop issuers subjects before issuer subject fault₀ i₀ fault i = (i ≤ before) × (fault ≡ pick (pair-among issuer subject (pairs (take i issuers) (take i subjects))) Numbers.pair-repeats 0)
 
 abbrev μ-loop : tie.MeasureT-loop
-μ-loop issuers subjects before issuer subject found₀ i₀ found i = before - i
+μ-loop issuers subjects before issuer subject fault₀ i₀ fault i = before - i
+
+-- the fault as the test has it
+as-test : {a b : Bool} → a ≡ b → pick b Numbers.pair-repeats 0 ≡ pick a Numbers.pair-repeats 0
+as-test e = ap (λ t. pick t Numbers.pair-repeats 0) (sym e)
 
 loop-holds : tie.Need-loop-holds Inv-loop μ-loop
-unfolding pairs
-loop-holds c = (omega arith, sym (among-none _ _))
+unfolding pairs pick
+loop-holds c = (omega arith, as-test (among-none _ _))
 
 mul-d : tie.Need-mul-d Inv-loop μ-loop
 mul-d c = omega arith
@@ -39,6 +46,7 @@ loop-less : tie.Need-loop-less Inv-loop μ-loop
 loop-less c = omega arith
 
 loop-again : tie.Need-loop-again Inv-loop μ-loop
+unfolding pick
 loop-again c =
     let l = c .before .before .before .before in
     let a = l .before .args in
@@ -46,16 +54,16 @@ loop-again c =
     let k : l .loop .i < length (a .subjects .now) = omega arith in
     let was = l .loop .inv .1 in (
       omega arith,
-      ⊎-elim (λ w. w .2 ∙ sym (among-here _ _ _ _ _ h k (w .0 .taken) (w .1 .taken)))
-          (⊎-elim (λ w. w .2 ∙ was ∙ sym (among-other-subject _ _ _ _ _ h k (w .1 .left))) (λ w. w .1 ∙ was ∙ sym (among-other-issuer _ _ _ _ _ h k (w .0 .left))))
+      ⊎-elim (λ w. w .2 ∙ as-test (among-here _ _ _ _ _ h k (w .0 .taken) (w .1 .taken)))
+          (⊎-elim (λ w. w .2 ∙ was ∙ as-test (among-other-subject _ _ _ _ _ h k (w .1 .left))) (λ w. w .1 ∙ was ∙ as-test (among-other-issuer _ _ _ _ _ h k (w .0 .left))))
           (c .if1 .came),
     )
 
 returns : tie.Need-returns Inv-loop μ-loop
 returns c = let all : c .before .loop .i ≡ c .before .before .args .before = omega arith in rw all at (c .before .loop .inv .1)
 
-pub pair-seen-spec : {M : Type 1} → statement M
-pair-seen-spec =
+pub repeat-fault-spec : {M : Type 1} → statement M
+repeat-fault-spec =
     tie.close
     (tie.spec
     Inv-loop
