@@ -9,12 +9,13 @@
  * names, dates and the rest are to be checked elsewhere. The exit status is 0 whatever the verdict, 1 where a certificate is
  * refused, and 2 for a wrong call or a file that cannot be read.
  *
- * certificates.expected has what these runs in the folder certificates write, one after the other; the fourth has status 1.
+ * certificates.expected has what these runs in the folder certificates write, one after the other; the fourth and the fifth have status 1.
  *
  *     ./certificates 1.3.6.1.4.1.32473.1.1 bridge.der issuing.der handheld.der
  *     ./certificates 1.3.6.1.4.1.32473.1.1 bridge.der issuing.der visitor.der
  *     ./certificates 1.3.6.1.4.1.32473.1.1 bridge.der issuing.der plain.der
  *     ./certificates 1.3.6.1.4.1.32473.1.1 bridge.der issuing.der repeated.der
+ *     ./certificates 1.3.6.1.4.1.32473.1.1 doubled.der issuing.der handheld.der
  *     ./certificates any bridge.der issuing.der rollover.der gate.der
  *     ./certificates 2.25.329800735698586629295641978511506172918 direct.der rollover.der gate.der
  *     ./certificates 1.3.6.1.4.1.32473.9.9 direct.der

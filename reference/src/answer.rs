@@ -10,6 +10,10 @@ pub const PLACES: usize = 899;
 /// The depth counts, from depth 0 on: "the counts have sixteen places".
 pub const DEPTHS: usize = MAX_CERTIFICATES + 1;
 
+/// The numbers that the judge answers with: 0 to 10 of document 01's table, and
+/// 11 (document 02, Six).
+pub const NUMBERS: usize = 12;
+
 /// "8: after certificate i's policies, explicit_policy is 0 and there is no
 /// graph"
 pub const NO_GRAPH: u8 = 8;
@@ -35,9 +39,10 @@ impl Answer {
         Answer { number, place, ..Answer::default() }
     }
 
-    /// "1 to 7 are refusals, the others verdicts."
+    /// "1 to 7 are refusals, the others verdicts"; 11 "is a refusal like 1 to
+    /// 7" (document 02, Six).
     pub fn is_refusal(&self) -> bool {
-        (1..=7).contains(&self.number)
+        matches!(self.number, 1..=7 | sheet::REPEATED_PAIR)
     }
 
     /// "After a refusal both are unchanged"; otherwise each table takes its
@@ -138,11 +143,28 @@ mod tests {
     }
 
     #[test]
+    fn the_refusals_are_1_to_7_and_11() {
+        for number in 0..=u8::MAX {
+            let refused = [1, 2, 3, 4, 5, 6, 7, 11].contains(&number);
+            assert_eq!(Answer::bare(number, 0).is_refusal(), refused, "{number}");
+        }
+    }
+
+    #[test]
     fn a_refusal_leaves_the_tables() {
         let (mut authority, mut user) = ([9; PLACES], [9; PLACES]);
         assert_eq!(judge_sheet(&[0x21], &mut authority, &mut user), Answer::bare(2, 0));
         assert_eq!(judge_path(&Path::default(), &mut authority, &mut user), Answer::bare(3, 0));
         assert_eq!(judge_record(&[0], &mut authority, &mut user), Answer::bare(3, 0));
+        for row in known::refused_rows() {
+            let (sheet, numbers) = (sheet::write(&row.path), record::numbers(&row.path));
+            let refused = Answer::bare(row.number, 0);
+            assert_eq!(judge_sheet(&sheet, &mut authority, &mut user), refused, "{}", row.name);
+            assert_eq!(judge_path(&row.path, &mut authority, &mut user), refused, "{}", row.name);
+            assert_eq!(judge_record(&numbers, &mut authority, &mut user), refused, "{}", row.name);
+            let short = judge_sheet(&sheet, &mut authority, &mut user[1..]);
+            assert_eq!(short, Answer::bare(7, 0), "{}", row.name);
+        }
         assert_eq!((authority, user), ([9; PLACES], [9; PLACES]));
     }
 }

@@ -1,12 +1,26 @@
-//! Why a sheet is answered 3, found by a walk over its fields that is apart
-//! from the reader of `sheet.rs` and tests nothing else.
+//! Why a sheet is answered 3 or 11, found by a walk over its fields that is
+//! apart from the reader of `sheet.rs` and tests nothing else.
 
-/// What a sheet is answered 3 for: "n 0 or a present count of 0" (document 02,
-/// Four).
+use crate::sheet;
+
+/// What a sheet is answered 3 for, "n 0 or a present count of 0" (document 02,
+/// Four), and what it is answered 11 for, "a pair repeated within one
+/// certificate" (document 02, Six).
 #[derive(Clone, Copy, Debug, PartialEq, Eq)]
 pub enum Cause {
     NoCertificate,
     EmptyList,
+    RepeatedPair,
+}
+
+impl Cause {
+    /// The answer to a sheet that has this cause and no other fault before it.
+    fn number(self) -> u8 {
+        match self {
+            Cause::NoCertificate | Cause::EmptyList => sheet::WRONG_COUNT,
+            Cause::RepeatedPair => sheet::REPEATED_PAIR,
+        }
+    }
 }
 
 /// Why the walk goes no further: a cause, or none where the sheet ends.
@@ -15,6 +29,20 @@ type Stop = Option<Cause>;
 /// The first cause that a sheet has, if it has one before it ends.
 pub fn cause(sheet: &[u8]) -> Option<Cause> {
     Walk { sheet, bit: 0 }.path().err().flatten()
+}
+
+/// Whether the first cause of a sheet is that of its answer: 3 and 11 have
+/// theirs, and a verdict, 1 and 6 have none. None where the answer says nothing
+/// of causes: a sheet answered 2, 4, 5 or 7 may have any.
+pub fn agrees(sheet: &[u8], number: u8) -> Option<bool> {
+    let expected = match number {
+        sheet::WRONG_EDITION | sheet::NO_POLICY | sheet::REPEATED_POLICY | sheet::TOO_SHORT => {
+            return None
+        }
+        sheet::WRONG_COUNT | sheet::REPEATED_PAIR => Some(number),
+        _ => None,
+    };
+    Some(cause(sheet).map(Cause::number) == expected)
 }
 
 /// A walk over a sheet, bit by bit.
@@ -47,8 +75,8 @@ impl Walk<'_> {
         self.bit += 16 * self.number(5)?;
         for _ in 0..n {
             self.number(1)?;
-            self.list(16)?;
-            self.list(16 + 16)?;
+            self.bit += 16 * self.count()?;
+            self.pairs()?;
             for _ in 0..3 {
                 self.bit += 8 * self.number(1)?;
             }
@@ -56,15 +84,27 @@ impl Walk<'_> {
         Ok(())
     }
 
-    /// "present, 1 bit, and if set a count (5 bits)" and as many elements of so
-    /// many bits.
-    fn list(&mut self, element: usize) -> Result<(), Stop> {
-        if self.number(1)? == 1 {
-            let count = self.number(5)?;
-            if count == 0 {
-                return Err(Some(Cause::EmptyList));
+    /// "present, 1 bit, and if set a count (5 bits)"; 0 of what is absent.
+    fn count(&mut self) -> Result<usize, Stop> {
+        if self.number(1)? == 0 {
+            return Ok(0);
+        }
+        match self.number(5)? {
+            0 => Err(Some(Cause::EmptyList)),
+            count => Ok(count),
+        }
+    }
+
+    /// A count "and the pairs (16 and 16, issuer first)", each taken as one
+    /// number of 32 bits.
+    fn pairs(&mut self) -> Result<(), Stop> {
+        let mut pairs = Vec::new();
+        for _ in 0..self.count()? {
+            let pair = self.number(16 + 16)?;
+            if pairs.contains(&pair) {
+                return Err(Some(Cause::RepeatedPair));
             }
-            self.bit += element * count;
+            pairs.push(pair);
         }
         Ok(())
     }
@@ -78,14 +118,13 @@ pub struct Causes {
 }
 
 impl Causes {
-    /// Counts a sheet that is answered 3. Returns whether it has a cause.
-    pub fn count(&mut self, sheet: &[u8]) -> bool {
+    /// Counts a sheet that is answered 3.
+    pub fn count(&mut self, sheet: &[u8]) {
         match cause(sheet) {
             Some(Cause::NoCertificate) => self.no_certificate += 1,
             Some(Cause::EmptyList) => self.empty_list += 1,
-            None => return false,
+            Some(Cause::RepeatedPair) | None => {}
         }
-        true
     }
 }
 
@@ -95,7 +134,6 @@ mod tests {
     use crate::known;
     use crate::path::{MAX_CERTIFICATES, MAX_LIST};
     use crate::random::{self, Full, Random};
-    use crate::sheet;
 
     #[test]
     fn a_sheet_that_is_read_or_cut_has_no_cause() {
@@ -132,6 +170,32 @@ mod tests {
             let sheet = sheet::pack(&fields);
             assert_eq!(cause(&sheet), Some(Cause::EmptyList));
             assert_eq!(sheet::read(&sheet), Err(sheet::WRONG_COUNT));
+        }
+    }
+
+    /// From the end of the second subject on, and not before.
+    #[test]
+    fn a_repeated_pair_is_met_when_its_second_subject_is_read() {
+        for row in known::refused_rows() {
+            let sheet = sheet::write(&row.path);
+            let repeats = row.number == sheet::REPEATED_PAIR;
+            for length in 0..=sheet.len() {
+                let met = cause(&sheet[..length]) == Some(Cause::RepeatedPair);
+                assert!(!repeats || met == (length >= row.bytes), "{} {length}", row.name);
+            }
+        }
+    }
+
+    #[test]
+    fn answers_and_their_causes() {
+        let repeated = known::REPEATED_PAIR_SHEET;
+        let sheets = [(&[0x10][..], 3), (&[0x11, 0, 0x40], 3), (&repeated, 11), (&[], 1)];
+        for (sheet, number) in sheets {
+            for answer in [0, 1, 3, 6, 8, 9, 10, 11] {
+                let holds = answer == number || number == 1 && !matches!(answer, 3 | 11);
+                assert_eq!(agrees(sheet, answer), Some(holds), "{number} {answer}");
+            }
+            assert!([2, 4, 5, 7].into_iter().all(|answer| agrees(sheet, answer).is_none()));
         }
     }
 }

@@ -115,6 +115,7 @@ pub enum Fault {
     OnePairMore(usize),
     IssuerZero(usize),
     SubjectZero(usize),
+    PairRepeats(usize),
 }
 
 /// Every fault of a path of two certificates.
@@ -124,6 +125,7 @@ pub fn faults() -> Vec<Fault> {
     for place in 0..2 {
         faults.extend([OnePolicyMore(place), PolicyZero(place), PolicyRepeats(place)]);
         faults.extend([OnePairMore(place), IssuerZero(place), SubjectZero(place)]);
+        faults.push(PairRepeats(place));
     }
     faults
 }
@@ -154,6 +156,7 @@ pub fn with_faults(faults: &[Fault]) -> Path {
             }
             Fault::IssuerZero(place) => certificates[place].mappings.push((0, 6)),
             Fault::SubjectZero(place) => certificates[place].mappings.push((5, 0)),
+            Fault::PairRepeats(place) => certificates[place].mappings.push((5, 6)),
         }
     }
     certificates.resize(count, Certificate::default());
@@ -171,7 +174,7 @@ mod tests {
     #[test]
     fn each_fault_alone() {
         let numbers: Vec<u8> = faults().into_iter().map(|fault| refused(&[fault])).collect();
-        assert_eq!(numbers, [3, 3, 3, 4, 3, 4, 5, 3, 4, 4, 3, 4, 5, 3, 4, 4]);
+        assert_eq!(numbers, [3, 3, 3, 4, 3, 4, 5, 3, 4, 4, 11, 3, 4, 5, 3, 4, 4, 11]);
         assert_eq!(sheet::refusal(&with_faults(&[])), Ok(()));
     }
 
@@ -201,6 +204,26 @@ mod tests {
         assert_eq!(refused(&[PolicyRepeats(1), SubjectZero(0)]), 4);
         assert_eq!(refused(&[PolicyZero(0), PolicyRepeats(0)]), 4);
         assert_eq!(refused(&[PolicyRepeats(0), PolicyZero(0)]), 5);
+    }
+
+    #[test]
+    fn a_repeated_pair_is_given_at_its_second_subject() {
+        use Fault::*;
+        assert_eq!(refused(&[PairRepeats(0), NoCertificate]), 3);
+        assert_eq!(refused(&[PairRepeats(0), OneUserMore]), 3);
+        assert_eq!(refused(&[PairRepeats(0), UserZero]), 4);
+        assert_eq!(refused(&[PairRepeats(0), PolicyZero(0)]), 4);
+        assert_eq!(refused(&[PairRepeats(0), PolicyRepeats(0)]), 5);
+        assert_eq!(refused(&[PairRepeats(0), OnePairMore(0)]), 3);
+        assert_eq!(refused(&[IssuerZero(0), PairRepeats(0)]), 4);
+        assert_eq!(refused(&[PairRepeats(0), IssuerZero(0)]), 11);
+        assert_eq!(refused(&[SubjectZero(0), PairRepeats(0)]), 4);
+        assert_eq!(refused(&[PairRepeats(0), SubjectZero(0)]), 11);
+        for later in [OnePolicyMore, PolicyZero, PolicyRepeats, OnePairMore, IssuerZero] {
+            assert_eq!(refused(&[later(1), PairRepeats(0)]), 11);
+        }
+        assert_eq!(refused(&[PairRepeats(1), SubjectZero(0)]), 4);
+        assert_eq!(refused(&[PairRepeats(1), PairRepeats(0)]), 11);
     }
 
     #[test]

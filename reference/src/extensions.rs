@@ -6,7 +6,7 @@ use crate::der::{self, Reader, NOT_DER};
 use crate::path::{ANY, MAX_LIST};
 use crate::record::{skip_number, CERTIFICATE_HEAD};
 use crate::register::{self, Register, ANY_POLICY, BAD_REGISTER};
-use crate::sheet::{REPEATED_POLICY, TOO_SHORT, WRONG_COUNT};
+use crate::sheet::{self, REPEATED_PAIR, REPEATED_POLICY, TOO_SHORT, WRONG_COUNT};
 
 /// "14 exactly when a new identifier is needed and 512 stand"
 pub const REGISTER_FULL: u8 = 14;
@@ -14,11 +14,12 @@ pub const REGISTER_FULL: u8 = 14;
 pub const LONG_IDENTIFIER: u8 = 15;
 
 /// The numbers that the reader answers.
-pub const ANSWERS: [u8; 8] = [
+pub const ANSWERS: [u8; 9] = [
     0,
     WRONG_COUNT,
     REPEATED_POLICY,
     TOO_SHORT,
+    REPEATED_PAIR,
     NOT_DER,
     REGISTER_FULL,
     LONG_IDENTIFIER,
@@ -65,7 +66,7 @@ fn read(extensions: Extensions, register: &mut [u8; register::BYTES]) -> Result<
     let mut register = Register::open(register)?;
     let mut numbering = Numbering { register: &register, new: Vec::new() };
     let policies = read_policies(extensions.policies, &mut numbering)?;
-    let (issuers, subjects) = read_mappings(extensions.mappings, &mut numbering)?;
+    let pairs = read_mappings(extensions.mappings, &mut numbering)?;
     let (explicit, mapping) = read_constraints(extensions.constraints)?;
     let inhibit_any = read_inhibit_any(extensions.inhibit_any)?;
     for identifier in numbering.new {
@@ -74,21 +75,20 @@ fn read(extensions: Extensions, register: &mut [u8; register::BYTES]) -> Result<
     Ok(Certificate {
         self_issued: extensions.self_issued != 0,
         policies,
-        issuers,
-        subjects,
+        pairs,
         skips: [explicit, mapping, inhibit_any],
     })
 }
 
-/// Up to `MAX_LIST` policies.
+/// Up to `MAX_LIST` policies or pairs.
 #[derive(Default)]
-struct List {
-    places: [u16; MAX_LIST],
+struct List<T> {
+    places: [T; MAX_LIST],
     count: usize,
 }
 
-impl List {
-    fn policies(&self) -> &[u16] {
+impl<T> List<T> {
+    fn elements(&self) -> &[T] {
         &self.places[..self.count]
     }
 
@@ -96,9 +96,9 @@ impl List {
         self.count == MAX_LIST
     }
 
-    /// Adds a policy to a list that is not full.
-    fn push(&mut self, policy: u16) {
-        self.places[self.count] = policy;
+    /// Adds an element to a list that is not full.
+    fn push(&mut self, element: T) {
+        self.places[self.count] = element;
         self.count += 1;
     }
 }
@@ -106,9 +106,8 @@ impl List {
 /// What the values say, and the flag.
 struct Certificate {
     self_issued: bool,
-    policies: List,
-    issuers: List,
-    subjects: List,
+    policies: List<u16>,
+    pairs: List<(u16, u16)>,
     skips: [Option<u8>; 3],
 }
 
@@ -116,17 +115,17 @@ impl Certificate {
     /// Writes the certificate "as it stands in a record" over zeros, and
     /// returns the places that it takes.
     fn write(&self, places: &mut [u16; PLACES]) -> usize {
-        let [policies, pairs] = [&self.policies, &self.issuers].map(|list| list.count as u16);
+        let (policies, pairs) = (self.policies.elements(), self.pairs.elements());
+        let [listed, mapped] = [policies.len(), pairs.len()].map(|count| count as u16);
         let [explicit, mapping, any] = self.skips.map(skip_number);
-        let head = [u16::from(self.self_issued), policies, pairs, explicit, mapping, any];
-        let mut end = 0;
-        for part in
-            [&head[..], self.policies.policies(), self.issuers.policies(), self.subjects.policies()]
-        {
-            places[end..end + part.len()].copy_from_slice(part);
-            end += part.len();
+        let head = [u16::from(self.self_issued), listed, mapped, explicit, mapping, any];
+        let issuers = pairs.iter().map(|&(issuer, _)| issuer);
+        let subjects = pairs.iter().map(|&(_, subject)| subject);
+        let lists = policies.iter().copied().chain(issuers).chain(subjects);
+        for (place, number) in places.iter_mut().zip(head.into_iter().chain(lists)) {
+            *place = number;
         }
-        end
+        head.len() + policies.len() + 2 * pairs.len()
     }
 }
 
@@ -174,7 +173,7 @@ fn elements<'v>(value: &mut Reader<'v>) -> Result<Reader<'v>, u8> {
 
 /// certificatePolicies. At one identifier 13, then 3 for a policy or pair above
 /// the limit, then 15, 14, 5.
-fn read_policies<'v>(value: &'v [u8], numbering: &mut Numbering<'_, 'v>) -> Result<List, u8> {
+fn read_policies<'v>(value: &'v [u8], numbering: &mut Numbering<'_, 'v>) -> Result<List<u16>, u8> {
     let mut policies = List::default();
     let mut value = Reader::new(value);
     if value.is_empty() {
@@ -188,7 +187,7 @@ fn read_policies<'v>(value: &'v [u8], numbering: &mut Numbering<'_, 'v>) -> Resu
             return Err(WRONG_COUNT);
         }
         let policy = numbering.number(identifier)?;
-        if policies.policies().contains(&policy) {
+        if policies.elements().contains(&policy) {
             return Err(REPEATED_POLICY);
         }
         policies.push(policy);
@@ -218,30 +217,33 @@ fn check_qualifiers(qualifiers: &[u8]) -> Result<(), u8> {
     Ok(())
 }
 
-/// policyMappings: the issuers and the subjects of the pairs. A pair too many
-/// is 3 at its issuer.
+/// policyMappings. A pair too many is 3 at its issuer; "11 where a pair repeats,
+/// at its second subject. Of one identifier 13 comes first, then 3, 15, 14, and
+/// then 5 or 11."
 fn read_mappings<'v>(
     value: &'v [u8],
     numbering: &mut Numbering<'_, 'v>,
-) -> Result<(List, List), u8> {
-    let (mut issuers, mut subjects) = (List::default(), List::default());
+) -> Result<List<(u16, u16)>, u8> {
+    let mut pairs = List::default();
     let mut value = Reader::new(value);
     if value.is_empty() {
-        return Ok((issuers, subjects));
+        return Ok(pairs);
     }
     let mut elements = elements(&mut value)?;
     while !elements.is_empty() {
-        let mut pair = Reader::new(elements.value(der::SEQUENCE)?);
-        let issuer = pair.identifier()?;
-        if issuers.is_full() {
+        let mut mapping = Reader::new(elements.value(der::SEQUENCE)?);
+        let issuer = mapping.identifier()?;
+        if pairs.is_full() {
             return Err(WRONG_COUNT);
         }
-        issuers.push(numbering.number(issuer)?);
-        subjects.push(numbering.number(pair.identifier()?)?);
-        pair.end()?;
+        let issuer = numbering.number(issuer)?;
+        let subject = numbering.number(mapping.identifier()?)?;
+        sheet::pair_fault(pairs.elements(), (issuer, subject))?;
+        pairs.push((issuer, subject));
+        mapping.end()?;
     }
     value.end()?;
-    Ok((issuers, subjects))
+    Ok(pairs)
 }
 
 /// policyConstraints: requireExplicitPolicy, then inhibitPolicyMapping. "An

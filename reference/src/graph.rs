@@ -74,10 +74,9 @@ impl Graph {
             level.retain(|node| !mappings.iter().any(|&(issuer, _)| issuer == node.policy));
             return self.prune();
         }
-        // "The same pair twice counts once."
+        // Each issuer policy's pairs side by side.
         let mut pairs = mappings.to_vec();
         pairs.sort_unstable();
-        pairs.dedup();
         let any_stands = has_node(level, ANY);
         for group in pairs.chunk_by(|one, other| one.0 == other.0) {
             let issuer = group[0].0;

@@ -1,17 +1,32 @@
-//! The paths with known outcomes of document 01, and those of document 02's
-//! request Three, which has case K anew.
+//! The paths with known outcomes of document 01, those of document 02's request
+//! Three, which has case K anew, and those of its request Six.
 
 use crate::answer::{Answer, DEPTHS};
-use crate::path::{Certificate, Path, ANY};
+use crate::path::{Certificate, Path, ANY, MAX_LIST};
 
 /// "E's sheet, whole, hex: 11 02 00 1E 00 1F 42 00 02 00."
 pub const E_SHEET: [u8; 10] = [0x11, 0x02, 0x00, 0x1E, 0x00, 0x1F, 0x42, 0x00, 0x02, 0x00];
+
+/// The sheet of one certificate without policies that maps 5 to 6 twice, whole.
+/// The second subject ends with the last byte but one.
+pub const REPEATED_PAIR_SHEET: [u8; 14] =
+    [0x11, 0x01, 0x00, 0x01, 0x22, 0x00, 0x05, 0x00, 0x06, 0x00, 0x05, 0x00, 0x06, 0x00];
 
 /// A row's name, its path and the answer written beside it.
 pub struct Known {
     pub name: &'static str,
     pub path: Path,
     pub answer: Answer,
+}
+
+/// A row that is refused: its name, its path and the number.
+pub struct Refused {
+    pub name: &'static str,
+    pub path: Path,
+    pub number: u8,
+    /// The bytes of the path's sheet to the end of the field at fault: with
+    /// these and any more of them it gets the number, with fewer 1.
+    pub bytes: usize,
 }
 
 /// A certificate with policies and pairs and nothing else.
@@ -36,7 +51,7 @@ fn answer(number: u8, place: usize, counts: &[u16], authority: &[u16], user: &[u
 }
 
 /// Rows A to M in order, each form of a row on its own; then those of test 9,
-/// made only before the last certificate.
+/// made only before the last certificate, and those of pairs that do not repeat.
 pub fn rows() -> Vec<Known> {
     let square = [(21, 21), (21, 22), (22, 21), (22, 22)];
     let a = path(vec![
@@ -90,6 +105,24 @@ pub fn rows() -> Vec<Known> {
     let last_to = path(vec![certificate(&[ANY], &[]), certificate(&[ANY], &[(71, ANY)])]);
     let only_to = path(vec![certificate(&[70], &[(71, ANY)])]);
 
+    let one_issuer = path(vec![
+        certificate(&[90], &[(90, 91), (90, 92)]),
+        certificate(&[91, 92], &[]),
+    ]);
+    let one_subject = path(vec![
+        certificate(&[90, 92], &[(90, 91), (92, 91)]),
+        certificate(&[91], &[]),
+    ]);
+    let exchanged = path(vec![
+        certificate(&[90, 91], &[(90, 91), (91, 90)]),
+        certificate(&[90], &[]),
+    ]);
+    let in_three = path(vec![
+        certificate(&[90], &[(90, 91)]),
+        certificate(&[91], &[(90, 91)]),
+        certificate(&[91], &[(90, 91)]),
+    ]);
+
     let row = |name, path, answer| Known { name, path, answer };
     vec![
         row("A", a, answer(0, 0, &[1, 2, 2], &[11, 12], &[11, 12])),
@@ -116,5 +149,45 @@ pub fn rows() -> Vec<Known> {
         row("the last maps anyPolicy", last_maps, answer(0, 0, &[1, 1, 1], &[ANY], &[ANY])),
         row("the last maps to anyPolicy", last_to, answer(0, 0, &[1, 1, 1], &[ANY], &[ANY])),
         row("the only one maps to anyPolicy", only_to, answer(0, 0, &[1, 1], &[70], &[70])),
+        row("pairs of one issuer", one_issuer, answer(0, 0, &[1, 1, 2], &[90], &[90])),
+        row("pairs of one subject", one_subject, answer(0, 0, &[1, 2, 1], &[90, 92], &[90, 92])),
+        row("a pair and its exchange", exchanged, answer(0, 0, &[1, 1, 1], &[91], &[91])),
+        row("a pair in each of three", in_three, answer(0, 0, &[1, 1, 1, 1], &[90], &[90])),
+    ]
+}
+
+/// The rows of request Six: "a pair repeated within one certificate is refused
+/// with 11, when its second subject policy is read, after 4".
+pub fn refused_rows() -> Vec<Refused> {
+    let mapped = |mappings: &[(u16, u16)]| path(vec![certificate(&[], mappings)]);
+    let first_of_two = |mappings: &[(u16, u16)], policies: &[u16]| {
+        path(vec![certificate(&[], mappings), certificate(policies, &[])])
+    };
+    let mut full: Vec<(u16, u16)> = (5..).map(|issuer| (issuer, 6)).take(MAX_LIST).collect();
+    full[MAX_LIST - 1] = full[0];
+    let listed = path(vec![certificate(&[70], &[(70, 71), (70, 71)])]);
+    let policy_too = path(vec![certificate(&[5, 5], &[(5, 6), (5, 6)])]);
+    let second = path(vec![certificate(&[], &[(5, 6)]), certificate(&[], &[(5, 6), (5, 6)])]);
+
+    let row = |name, path, number, bytes| Refused { name, path, number, bytes };
+    vec![
+        row("a pair twice", mapped(&[(5, 6), (5, 6)]), 11, 13),
+        row("a pair twice, the last of three", mapped(&[(5, 6), (7, 8), (5, 6)]), 11, 17),
+        row("a pair twice, not the first", mapped(&[(5, 6), (7, 8), (7, 8)]), 11, 17),
+        row("a pair three times", mapped(&[(5, 6), (5, 6), (5, 6)]), 11, 13),
+        row("a policy to itself, twice", mapped(&[(5, 5), (5, 5)]), 11, 13),
+        row("a full list whose last is its first", mapped(&full), 11, 129),
+        row("a pair twice, after policies", listed, 11, 16),
+        row("a pair twice in the second of two", second, 11, 19),
+        row("a pair twice, issuer anyPolicy", first_of_two(&[(ANY, 71); 2], &[70]), 11, 13),
+        row("a pair twice, subject anyPolicy", first_of_two(&[(70, ANY); 2], &[70]), 11, 13),
+        row("anyPolicy to itself, twice", first_of_two(&[(ANY, ANY); 2], &[70]), 11, 13),
+        row("a pair twice, then a subject 0", mapped(&[(5, 6), (5, 6), (5, 0)]), 11, 13),
+        row("a pair twice, then a policy twice", first_of_two(&[(5, 6); 2], &[5, 5]), 11, 13),
+        row("(0, 0) twice", mapped(&[(0, 0), (0, 0)]), 4, 7),
+        row("a subject 0 twice", mapped(&[(5, 0), (5, 0)]), 4, 9),
+        row("a subject 0, then a pair twice", mapped(&[(5, 6), (5, 0), (5, 6)]), 4, 13),
+        row("an issuer 0, then a pair twice", mapped(&[(5, 6), (0, 6), (5, 6)]), 4, 11),
+        row("a policy twice, then a pair twice", policy_too, 5, 9),
     ]
 }

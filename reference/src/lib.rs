@@ -30,6 +30,7 @@ pub mod random_pieces;
 pub mod random_record;
 pub mod record;
 pub mod register;
+pub mod repeats;
 pub mod sheet;
 pub mod stack;
 pub mod tlv;

@@ -132,6 +132,16 @@ mod tests {
                 assert_eq!(of_finish(&mut fed).0, row.answer, "{} {way:?}", row.name);
             }
         }
+        for row in known::refused_rows() {
+            let sheet = sheet::write(&row.path);
+            for way in WAYS {
+                for piece in way.cut(&sheet, &mut random) {
+                    fed.feed(piece);
+                }
+                let refused = (Answer::bare(row.number, 0), vec![9; PLACES], vec![9; PLACES]);
+                assert_eq!(of_finish(&mut fed), refused, "{} {way:?}", row.name);
+            }
+        }
     }
 
     #[test]

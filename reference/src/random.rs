@@ -2,6 +2,7 @@
 //! from it.
 
 use crate::path::{pairs, Certificate, Path, ANY, MAX_CERTIFICATES, MAX_LIST};
+use crate::repeats::{self, Likeness};
 use crate::sheet::{self, Field};
 
 /// Splitmix64: the same seed gives the same numbers everywhere.
@@ -145,7 +146,7 @@ fn user_list(random: &mut Random, alphabet: &[u16]) -> Vec<u16> {
         .collect()
 }
 
-/// A certificate whose lists are drawn from the path's alphabet.
+/// A certificate whose lists are drawn from the path's alphabet, without repeats.
 fn certificate(random: &mut Random, habits: &Habits) -> Certificate {
     let mut policies: Vec<u16> = Vec::new();
     if !random.chance(4) {
@@ -165,17 +166,11 @@ fn certificate(random: &mut Random, habits: &Habits) -> Certificate {
     let mut mappings: Vec<(u16, u16)> = Vec::new();
     if random.chance(habits.mapped) {
         let least = habits.most_pairs.div_ceil(2);
-        for _ in 0..random.between(least, habits.most_pairs) {
-            mappings.push((random.pick(&habits.alphabet), random.pick(&habits.alphabet)));
-        }
+        let count = random.between(least, habits.most_pairs);
+        repeats::add_different(random, &mut mappings, &habits.alphabet, count);
     }
-    if !mappings.is_empty() && random.chance(4) {
-        let place = random.below(mappings.len());
-        match random.below(3) {
-            0 => mappings[place].0 = ANY,
-            1 => mappings[place].1 = ANY,
-            _ => mappings[place] = (ANY, ANY),
-        }
+    if random.chance(4) {
+        name_any(random, &mut mappings);
     }
     Certificate {
         self_issued: random.chance(25),
@@ -184,6 +179,18 @@ fn certificate(random: &mut Random, habits: &Habits) -> Certificate {
         require_explicit_policy: skip(random, habits.skips),
         inhibit_policy_mapping: skip(random, habits.skips),
         inhibit_any_policy: skip(random, habits.skips),
+    }
+}
+
+/// anyPolicy in one of the pairs, if there are any.
+fn name_any(random: &mut Random, mappings: &mut [(u16, u16)]) {
+    if !mappings.is_empty() {
+        let place = random.below(mappings.len());
+        match random.below(3) {
+            0 => mappings[place].0 = ANY,
+            1 => mappings[place].1 = ANY,
+            _ => mappings[place] = (ANY, ANY),
+        }
     }
 }
 
@@ -203,13 +210,14 @@ fn skip(random: &mut Random, percent: usize) -> Option<u8> {
 /// at fault may stand before or after a second one, or before a cut.
 pub fn sheet(random: &mut Random) -> Vec<u8> {
     let mut path = path(random);
-    match random.below(20) {
+    match random.below(22) {
         0..=10 => sheet::write(&path),
         11 => flip_bit(random, sheet::write(&path)),
         12 => cut(random, sheet::write(&path)),
         13 => extend(random, sheet::write(&path)),
         14 => (0..random.below(40)).map(|_| random.byte()).collect(),
         15 => random_after_head(random, &path),
+        16..=17 => sheet_with_repeat(random, path),
         _ => {
             let mut fields = sheet::fields(&path);
             match random.below(4) {
@@ -233,6 +241,33 @@ pub fn sheet(random: &mut Random) -> Vec<u8> {
             }
         }
     }
+}
+
+/// A sheet with a pair twice in one certificate, or with one like another: with
+/// another fault before it or after it now and then, or cut around its end.
+fn sheet_with_repeat(random: &mut Random, mut path: Path) -> Vec<u8> {
+    let (certificate, pair) = repeat_pair(random, &mut path);
+    match random.below(12) {
+        0 => repeat_policy(random, &mut path),
+        1 => {
+            repeat_pair(random, &mut path);
+        }
+        2..=4 => {
+            let end = repeats::end_of_pair(&path, certificate, pair);
+            let mut sheet = sheet::write(&path);
+            sheet.truncate(end - random.below(6));
+            return sheet;
+        }
+        5 => return extend(random, sheet::write(&path)),
+        6..=7 => {
+            let mut fields = sheet::fields(&path);
+            let width = random.pick(&[5, 16, 16]);
+            change_field(random, &mut fields, width);
+            return sheet::pack(&fields);
+        }
+        _ => {}
+    }
+    sheet::write(&path)
 }
 
 /// One bit of the sheet the other way.
@@ -292,6 +327,20 @@ fn repeat_policy(random: &mut Random, path: &mut Path) {
     }
 }
 
+/// A pair twice in one certificate's list, or one that is like another, and now
+/// and then one that names anyPolicy. Returns the places of the certificate and
+/// of the later pair.
+pub fn repeat_pair(random: &mut Random, path: &mut Path) -> (usize, usize) {
+    let certificate = random.below(path.certificates.len());
+    let mappings = &mut path.certificates[certificate].mappings;
+    if random.chance(15) {
+        name_any(random, mappings);
+    }
+    let own = [(); 2].map(|()| random.word().max(2)).into();
+    let likeness = Likeness::draw(random);
+    (certificate, repeats::add_like(random, mappings, likeness, &own))
+}
+
 /// A path with faults that its sheet can carry, policies 0, repeats and no
 /// certificate, and with lists of any length to the limit.
 pub fn faulty_path(random: &mut Random) -> Path {
@@ -300,14 +349,20 @@ pub fn faulty_path(random: &mut Random) -> Path {
         let count = random.between(0, MAX_LIST);
         let place = random.below(path.certificates.len());
         let certificate = &mut path.certificates[place];
-        match random.below(8) {
+        match random.below(9) {
             0 => certificate.policies = (2..).take(count).collect(),
             1 => certificate.mappings = (2..).take(count).map(|issuer| (issuer, 3)).collect(),
             2 => path.user = vec![2; count],
             3 => certificate.policies.insert(0, 0),
-            4 => certificate.mappings.insert(0, random.pick(&[(0, 2), (2, 0)])),
+            4 => {
+                let place = random.between(0, certificate.mappings.len());
+                certificate.mappings.insert(place, random.pick(&[(0, 2), (2, 0), (0, 0)]));
+            }
             5 => path.user.insert(0, 0),
             6 => repeat_policy(random, &mut path),
+            7 => {
+                repeat_pair(random, &mut path);
+            }
             _ => {
                 let n = random.between(1, MAX_CERTIFICATES);
                 path.certificates.resize(n, Certificate::default());
@@ -488,6 +543,7 @@ pub fn doubling(n: usize) -> Path {
 #[cfg(test)]
 mod tests {
     use super::*;
+    use crate::answer::NUMBERS;
 
     /// Whether no two things of a list are the same.
     fn all_differ<T: Ord + Clone>(list: &[T]) -> bool {
@@ -550,14 +606,76 @@ mod tests {
     #[test]
     fn a_faulty_path_has_the_refusal_of_its_sheet() {
         let mut random = Random::new(4);
-        let mut times = [0; 6];
+        let mut times = [0; NUMBERS];
         for _ in 0..2_000 {
             let path = faulty_path(&mut random);
             let refusal = sheet::refusal(&path);
             assert_eq!(sheet::read(&sheet::write(&path)), refusal.map(|()| path));
             times[usize::from(refusal.err().unwrap_or(0))] += 1;
         }
-        assert!([0, 3, 4, 5].into_iter().all(|number| times[number] >= 50), "{times:?}");
+        assert!([0, 3, 4, 5, 11].into_iter().all(|number| times[number] >= 50), "{times:?}");
+    }
+
+    /// Repeats alone, and those that come with other faults: 11 where none comes
+    /// before, also of a pair that names anyPolicy, and 1 where the sheet is cut.
+    #[test]
+    fn random_sheets_get_every_refusal_where_a_pair_repeats() {
+        let mut random = Random::new(6);
+        let mut times = [0; NUMBERS];
+        for _ in 0..5_000 {
+            let path = path(&mut random);
+            let sheet = sheet_with_repeat(&mut random, path);
+            times[usize::from(sheet::read(&sheet).err().unwrap_or(0))] += 1;
+        }
+        assert!([0, 1, 3, 4, 5, 6, 11].into_iter().all(|number| times[number] >= 20), "{times:?}");
+        assert!(times[0] >= 500 && times[11] >= 2_000, "{times:?}");
+    }
+
+    #[test]
+    fn pairs_repeat_everywhere() {
+        let mut random = Random::new(7);
+        let (mut next, mut last, mut not_first, mut later, mut any) = (0, 0, 0, 0, 0);
+        for _ in 0..2_000 {
+            let mut path = path(&mut random);
+            let (certificate, place) = repeat_pair(&mut random, &mut path);
+            let mappings = &path.certificates[certificate].mappings;
+            let pair = mappings[place];
+            if let Some(first) = mappings[..place].iter().position(|&before| before == pair) {
+                next += usize::from(first + 1 == place);
+                last += usize::from(place + 1 == mappings.len());
+                not_first += usize::from(first > 0);
+                later += usize::from(certificate > 0);
+                any += usize::from(pair.0 == ANY || pair.1 == ANY);
+                assert_eq!(sheet::refusal(&path), Err(sheet::REPEATED_PAIR));
+            }
+        }
+        let times = [next, last, not_first, later, any];
+        assert!(times.iter().all(|&times| times >= 50), "{times:?}");
+    }
+
+    /// Two pairs of one certificate that differ in the subject alone, in the
+    /// issuer alone, and by exchange, and a pair in two certificates.
+    #[test]
+    fn paths_that_are_read_have_pairs_like_others() {
+        let mut random = Random::new(8);
+        let mut times = [0; 4];
+        for _ in 0..2_000 {
+            let Ok(path) = sheet::read(&sheet(&mut random)) else { continue };
+            let lists: Vec<&Vec<(u16, u16)>> =
+                path.certificates.iter().map(|one| &one.mappings).collect();
+            let within = |like: fn((u16, u16), (u16, u16)) -> bool| {
+                let two = |list: &&Vec<(u16, u16)>| {
+                    list.iter().any(|&one| list.iter().any(|&other| one != other && like(one, other)))
+                };
+                usize::from(lists.iter().any(two))
+            };
+            times[0] += within(|one, other| one.0 == other.0);
+            times[1] += within(|one, other| one.1 == other.1);
+            times[2] += within(|one, other| one == (other.1, other.0));
+            let twice = |two: &[&Vec<(u16, u16)>]| two[0].iter().any(|pair| two[1].contains(pair));
+            times[3] += usize::from(lists.windows(2).any(twice));
+        }
+        assert!(times.iter().all(|&times| times >= 100), "{times:?}");
     }
 
     #[test]

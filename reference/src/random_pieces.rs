@@ -199,6 +199,7 @@ fn any_number(random: &mut Random) -> u16 {
 #[cfg(test)]
 mod tests {
     use super::*;
+    use crate::answer::NUMBERS;
     use crate::pieces::Fed;
 
     #[test]
@@ -259,11 +260,11 @@ mod tests {
     fn random_sheets_are_of_every_kind() {
         let mut random = Random::new(4);
         let sheets: Vec<Vec<u8>> = (0..2_000).map(|_| sheet(&mut random)).collect();
-        let mut times = [0; 7];
+        let mut times = [0; NUMBERS];
         for sheet in &sheets {
             times[usize::from(sheet::read(sheet).err().unwrap_or(0))] += 1;
         }
-        assert!(times[..=6].iter().all(|&times| times >= 20), "{times:?}");
+        assert!((0..=6).chain([11]).all(|number| times[number] >= 20), "{times:?}");
         for length in [0, LONGEST, KEPT, KEPT + 1] {
             assert!(sheets.iter().filter(|sheet| sheet.len() == length).count() >= 5, "{length}");
         }

@@ -54,7 +54,7 @@ pub fn small_numbers(length: usize, random: &mut Random) -> Vec<u16> {
 }
 
 /// Another number at a random place: one of the record's own, so that policies
-/// repeat, or one of `OTHERS`, or any.
+/// and pairs repeat, or one of `OTHERS`, or any.
 pub fn change(record: &mut [u16], random: &mut Random) {
     if !record.is_empty() {
         let place = random.below(record.len());
@@ -73,10 +73,19 @@ fn cut(mut record: Vec<u16>, random: &mut Random) -> Vec<u16> {
     record
 }
 
+/// The same, or the whole record more often than not.
+fn cut_or_whole(record: Vec<u16>, random: &mut Random) -> Vec<u16> {
+    if random.chance(30) {
+        cut(record, random)
+    } else {
+        record
+    }
+}
+
 /// A random record: well-formed, or damaged in one of the ways below, of which
 /// two may come together.
 pub fn record(random: &mut Random) -> Vec<u16> {
-    match random.below(20) {
+    match random.below(22) {
         0..=10 => odd(&random::path(random), random),
         11 => cut(odd(&random::path(random), random), random),
         12 => small_numbers(random.below(100), random),
@@ -87,13 +96,18 @@ pub fn record(random: &mut Random) -> Vec<u16> {
             }
             record
         }
+        16..=17 => {
+            let mut path = random::path(random);
+            random::repeat_pair(random, &mut path);
+            let mut record = odd(&path, random);
+            if random.chance(20) {
+                change(&mut record, random);
+            }
+            cut_or_whole(record, random)
+        }
         _ => {
             let record = odd(&random::overlong_path(random), random);
-            if random.chance(30) {
-                cut(record, random)
-            } else {
-                record
-            }
+            cut_or_whole(record, random)
         }
     }
 }
@@ -101,6 +115,7 @@ pub fn record(random: &mut Random) -> Vec<u16> {
 #[cfg(test)]
 mod tests {
     use super::*;
+    use crate::answer::NUMBERS;
     use crate::record::path_of;
     use crate::sheet;
 
@@ -132,11 +147,11 @@ mod tests {
     #[test]
     fn random_records_get_every_refusal() {
         let mut random = Random::new(5);
-        let mut times = [0; 6];
+        let mut times = [0; NUMBERS];
         for _ in 0..1_000 {
             let refused = path_of(&record(&mut random)).err().unwrap_or(0);
             times[usize::from(refused)] += 1;
         }
-        assert!([0, 3, 4, 5].into_iter().all(|number| times[number] >= 20), "{times:?}");
+        assert!([0, 3, 4, 5, 11].into_iter().all(|number| times[number] >= 20), "{times:?}");
     }
 }

@@ -111,8 +111,9 @@ impl<'a> Reader<'a> {
 /// The path of a record, or its refusal: "3 where n or a count is out of its
 /// limits or the record is too short for a head or for what a count says, 4
 /// where a policy is 0, 5 where a policy repeats within one certificate's
-/// policies", in the sheet's field order. "Numbers after the record never
-/// matter."
+/// policies, 11 where a pair repeats within one certificate's pairs, at its
+/// second subject and after 4", in the sheet's field order. "Numbers after the
+/// record never matter."
 pub fn path_of(record: &[u16]) -> Result<Path, u8> {
     let mut reader = Reader { rest: record };
     let [n, mapping_inhibit, explicit_policy, any_policy_inhibit, users] = reader.head()?;
@@ -150,6 +151,7 @@ mod tests {
     use crate::decoded::{faults, with_faults};
     use crate::known;
     use crate::random::{self, Full, Random};
+    use crate::repeats::{self, Likeness};
 
     /// The limit of a list, and one more.
     const MOST: u16 = MAX_LIST as u16;
@@ -253,6 +255,26 @@ mod tests {
         assert_eq!(path_of(&with(&[0, 3, 0, 0, 0, 0, 5, 0, 5])), Err(4));
         assert_eq!(path_of(&with(&[0, 0, 2, 0, 0, 0, 0, 7, 7])), Err(3));
         assert_eq!(path_of(&with(&[0, 0, 2, 0, 0, 0, 0, 7, 7, 7])), Err(4));
+        assert_eq!(path_of(&with(&[0, 0, 3, 0, 0, 0, 5, 5, 5, 6, 6])), Err(3));
+        assert_eq!(path_of(&with(&[0, 0, 3, 0, 0, 0, 5, 5, 5, 6, 6, 0])), Err(11));
+        assert_eq!(path_of(&with(&[0, 0, 3, 0, 0, 0, 5, 5, 5, 6, 0, 6])), Err(4));
+    }
+
+    #[test]
+    fn refused_rows_as_records() {
+        for row in known::refused_rows() {
+            assert_eq!(path_of(&numbers(&row.path)), Err(row.number), "{}", row.name);
+        }
+    }
+
+    #[test]
+    fn every_two_pairs_of_a_full_list() {
+        for alike in repeats::in_full_lists() {
+            let path = alike.path();
+            let repeats = alike.likeness == Likeness::Same;
+            let expected = if repeats { Err(11) } else { Ok(path.clone()) };
+            assert_eq!(path_of(&numbers(&path)), expected, "{alike:?}");
+        }
     }
 
     #[test]
@@ -268,6 +290,9 @@ mod tests {
         let mut two = with(&[0, 0, 1, 0, 0, 0, 5, 0]);
         two[0] = 2;
         assert_eq!(path_of(&two), Err(4));
+        let mut two = with(&[0, 0, 2, 0, 0, 0, 5, 5, 6, 6]);
+        two[0] = 2;
+        assert_eq!(path_of(&two), Err(11));
     }
 
     #[test]
@@ -302,9 +327,12 @@ mod tests {
         let mut record = [7; LONGEST];
         assert_eq!(read_into(&[], &mut record[1..]), (7, 0));
         assert_eq!(read_into(&[0x21], &mut record), (2, 0));
+        assert_eq!(read_into(&known::REPEATED_PAIR_SHEET, &mut record), (11, 0));
         let mut buffer = [7; sheet::LONGEST];
         assert_eq!(write_into(&[], &mut buffer[1..]), (7, 0));
         assert_eq!(write_into(&[], &mut buffer), (3, 0));
+        let repeated = with(&[0, 0, 2, 0, 0, 0, 5, 5, 6, 6]);
+        assert_eq!(write_into(&repeated, &mut buffer), (11, 0));
         assert_eq!((record, buffer), ([7; LONGEST], [7; sheet::LONGEST]));
         assert_eq!(read_into(&known::E_SHEET, &mut record), (0, 14));
         assert_eq!(record[..15], [1, 0, 0, 0, 2, 30, 31, 0, 1, 0, 0, 0, 0, 1, 7]);

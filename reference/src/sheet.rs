@@ -28,6 +28,8 @@ pub const REPEATED_POLICY: u8 = 5;
 pub const NOT_ZERO_FILL: u8 = 6;
 /// "7: a lent table is too short"
 pub const TOO_SHORT: u8 = 7;
+/// 11: "a pair repeated within one certificate" (document 02, Six)
+pub const REPEATED_PAIR: u8 = 11;
 
 /// "Bit-packed fields, most significant bit first, no gaps."
 struct Reader<'a> {
@@ -99,6 +101,7 @@ impl Reader<'_> {
         for _ in 0..count {
             let issuer = self.policy()?;
             let subject = self.policy()?;
+            pair_fault(&mappings, (issuer, subject))?;
             mappings.push((issuer, subject));
         }
         Ok(Certificate {
@@ -122,7 +125,8 @@ impl Reader<'_> {
 }
 
 /// Reads a sheet "field by field, 1 before the field's own fault, 4 before 5;
-/// then 6".
+/// then 6"; 11 is given "when its second subject policy is read, after 4"
+/// (document 02, Six).
 pub fn read(sheet: &[u8]) -> Result<Path, u8> {
     let mut reader = Reader { sheet, position: 0 };
     if reader.field(4)? != 1 {
@@ -214,7 +218,7 @@ pub fn write(path: &Path) -> Vec<u8> {
 
 /// "A path handed over decoded is refused by 3, 4 and 5 in the sheet's field
 /// order, a count of 0 policies or pairs being absence"; by 3 where n is 0 or a
-/// count is above its limit.
+/// count is above its limit. It is refused by 11 too (document 02, Six).
 pub fn refusal(path: &Path) -> Result<(), u8> {
     if path.certificates.is_empty() || path.certificates.len() > MAX_CERTIFICATES {
         return Err(WRONG_COUNT);
@@ -254,13 +258,27 @@ pub fn policies_fault(policies: &[u16]) -> Result<(), u8> {
     Ok(())
 }
 
-/// A certificate's pairs: 3 for the count, then 4 for issuer or subject.
+/// A certificate's pairs: 3 for the count, then at each pair 4 for issuer or
+/// subject before 11.
 pub fn pairs_fault(pairs: &[(u16, u16)]) -> Result<(), u8> {
     if pairs.len() > MAX_LIST {
         return Err(WRONG_COUNT);
     }
-    if pairs.iter().any(|&(issuer, subject)| issuer == 0 || subject == 0) {
-        return Err(NO_POLICY);
+    for (place, &(issuer, subject)) in pairs.iter().enumerate() {
+        if issuer == 0 || subject == 0 {
+            return Err(NO_POLICY);
+        }
+        pair_fault(&pairs[..place], (issuer, subject))?;
+    }
+    Ok(())
+}
+
+/// The fault of a pair as a whole, after those of its two policies: "a pair
+/// repeated within one certificate is refused with 11" (document 02, Six). Given
+/// are the pairs before it in its certificate.
+pub fn pair_fault(before: &[(u16, u16)], pair: (u16, u16)) -> Result<(), u8> {
+    if before.contains(&pair) {
+        return Err(REPEATED_PAIR);
     }
     Ok(())
 }
@@ -302,6 +320,7 @@ pub fn rewrite(sheet: &[u8], buffer: &mut [u8]) -> (u8, usize) {
 mod tests {
     use super::*;
     use crate::known;
+    use crate::repeats::{self, Likeness};
 
     fn with(certificate: Certificate) -> Path {
         Path { user: vec![1], certificates: vec![certificate], ..Path::default() }
@@ -401,9 +420,58 @@ mod tests {
         let path = with(Certificate { policies: vec![5, 6, 0, 5], ..Certificate::default() });
         assert_eq!((read(&write(&path)), refusal(&path)), (Err(4), Err(4)));
         let path = with(Certificate { mappings: vec![(5, 6), (5, 6)], ..Certificate::default() });
-        assert_eq!((read(&write(&path)), refusal(&path)), (Ok(path.clone()), Ok(())));
+        assert_eq!((read(&write(&path)), refusal(&path)), (Err(11), Err(11)));
         let path = Path { user: vec![9, 9], ..with(Certificate::default()) };
         assert_eq!((read(&write(&path)), refusal(&path)), (Ok(path.clone()), Ok(())));
+    }
+
+    #[test]
+    fn a_pair_twice_has_the_written_sheet() {
+        let rows = known::refused_rows();
+        assert_eq!((rows[0].name, rows[0].number), ("a pair twice", REPEATED_PAIR));
+        assert_eq!(write(&rows[0].path), known::REPEATED_PAIR_SHEET);
+    }
+
+    /// "when its second subject policy is read": a sheet that ends before that
+    /// is 1, and what comes after never matters.
+    #[test]
+    fn refused_rows_and_every_cut_of_them() {
+        for row in known::refused_rows() {
+            assert_eq!(refusal(&row.path), Err(row.number), "{}", row.name);
+            let mut sheet = write(&row.path);
+            for length in 0..=sheet.len() {
+                let number = if length < row.bytes { ENDS_EARLY } else { row.number };
+                assert_eq!(read(&sheet[..length]), Err(number), "{} {length}", row.name);
+            }
+            sheet[row.bytes..].fill(0xFF);
+            sheet.push(0xFF);
+            assert_eq!(read(&sheet), Err(row.number), "{}", row.name);
+        }
+    }
+
+    #[test]
+    fn every_two_pairs_of_a_full_list() {
+        for alike in repeats::in_full_lists() {
+            let path = alike.path();
+            let (sheet, end) = (write(&path), alike.end());
+            if alike.likeness != Likeness::Same {
+                assert_eq!((read(&sheet), refusal(&path)), (Ok(path), Ok(())), "{alike:?}");
+                continue;
+            }
+            assert_eq!((read(&sheet), refusal(&path)), (Err(11), Err(11)), "{alike:?}");
+            assert_eq!((read(&sheet[..end]), read(&sheet[..end - 1])), (Err(11), Err(1)));
+        }
+    }
+
+    #[test]
+    fn a_refusal_leaves_the_buffer() {
+        for row in known::refused_rows() {
+            let mut buffer = [7; LONGEST];
+            assert_eq!(write_into(&row.path, &mut buffer), (row.number, 0), "{}", row.name);
+            assert_eq!(rewrite(&write(&row.path), &mut buffer), (row.number, 0), "{}", row.name);
+            assert_eq!(write_into(&row.path, &mut buffer[1..]), (7, 0), "{}", row.name);
+            assert_eq!(buffer, [7; LONGEST]);
+        }
     }
 
     #[test]

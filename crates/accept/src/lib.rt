@@ -69,7 +69,7 @@ fn after(given: &[u16], at: usize) -> usize
     at + CERTIFICATE_HEAD + p + m + m
 }
 
-// The refusal of a record handed over: 3, 4 and 5 in the sheet's field order, 3 also where it is too short; 0 where it has none.
+// The refusal of a record handed over: 3, 4, 5 and 11 in the sheet's field order, 3 also where it is too short; 0 where it has none.
 pub fn record_fault(given: &[u16]) -> u8
     ensures { λ r. ⌜ r ≡ record-fault (now (given .entry)) ⌝ }
 {

@@ -54,7 +54,7 @@ fn judge_in(given: &[u16], rec: &mut [u16], authority: &mut [u16], user: &mut [u
     graph::judge_record(rec, places, authority, user)
 }
 
-// The judge on a path handed over as a record, with the three demands; its refusals are 7, then 3, 4 and 5.
+// The judge on a path handed over as a record, with the three demands; its refusals are 7, then 3, 4, 5 and 11.
 pub fn judge_record(given: &[u16], authority: &mut [u16], user: &mut [u16]) -> Answer
     ensures demand_1 { λ r. ⌜ r .number ≤ Numbers.highest ⌝ }
     ensures demand_2 { λ r. ⌜ outcome r (now (authority .exit)) (now (user .exit)) ≡ record-judged Graph.judged (now (given .entry)) (now (authority .entry)) (now (user .entry)) ⌝ }

@@ -27,7 +27,7 @@ impl Files {
     /// One path, with old values and faults in its unused places.
     fn add(&mut self, path: &Path, lengths: Lengths) {
         let random = &mut self.random;
-        let mut unused = || random.pick(&[0, 1, 5, 5, MAX_LIST as u16 + 1, 65_535]);
+        let mut unused = || random.pick(&[0, 1, 5, 5, 6, MAX_LIST as u16 + 1, 65_535]);
         self.records.extend(decoded::record(path, lengths, &mut unused));
         self.lines += &decoded::line(path, lengths);
         self.count += 1;
@@ -46,8 +46,8 @@ impl Files {
     /// The stored files: the known paths, one of them with each length, each
     /// fault, and two faults at once.
     fn stored(&mut self) {
-        for row in known::rows() {
-            self.add(&row.path, ENOUGH);
+        for path in known_paths() {
+            self.add(&path, ENOUGH);
         }
         self.add_lengths(&known::rows()[0].path);
         for fault in decoded::faults() {
@@ -58,6 +58,7 @@ impl Files {
             Fault::OnePolicyMore(0),
             Fault::PolicyRepeats(0),
             Fault::OnePairMore(0),
+            Fault::PairRepeats(0),
             Fault::SubjectZero(0),
             Fault::PolicyRepeats(1),
         ];
@@ -71,8 +72,8 @@ impl Files {
     /// The known paths, full ones, and every one and every two faults, all
     /// with each length.
     fn each_length(&mut self) {
-        for row in known::rows() {
-            self.add_lengths(&row.path);
+        for path in known_paths() {
+            self.add_lengths(&path);
         }
         for kind in FULL_KINDS {
             let path = random::full(kind, MAX_CERTIFICATES, &mut self.random);
@@ -102,6 +103,12 @@ impl Files {
         };
         self.add(&path, lengths);
     }
+}
+
+/// The known paths, those that are refused too.
+fn known_paths() -> Vec<Path> {
+    let refused = known::refused_rows().into_iter().map(|row| row.path);
+    known::rows().into_iter().map(|row| row.path).chain(refused).collect()
 }
 
 fn main() -> io::Result<()> {
