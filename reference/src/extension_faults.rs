@@ -6,6 +6,7 @@ use crate::path::MAX_LIST;
 use crate::random::Random;
 use crate::random_extensions::{any_value, content, identifier, integer, Value};
 use crate::register::{self, entry_start, order_start, ANY_POLICY, BYTES, LONGEST, MOST};
+use crate::repeats::{self, Likeness};
 use crate::tlv::{Content, Length, Tlv};
 
 /// The lengths of identifiers that are too long for a register.
@@ -22,7 +23,7 @@ fn pick_mut<'l, T>(random: &mut Random, list: &'l mut [T]) -> Option<&'l mut T> 
 
 /// One fault in what the extensions say.
 pub fn spoil_draft(random: &mut Random, draft: &mut Draft, alphabet: &[Identifier]) {
-    match random.below(12) {
+    match random.below(14) {
         0..=1 => repeat_policy(random, draft),
         2 => repeat_any_policy(random, draft),
         3..=4 => too_many_policies(random, draft),
@@ -36,6 +37,7 @@ pub fn spoil_draft(random: &mut Random, draft: &mut Draft, alphabet: &[Identifie
             let bad = bad_identifier(random);
             replace_identifier(random, draft, bad);
         }
+        11..=12 => repeat_pair(random, draft, alphabet),
         _ => replace_integer(random, draft),
     }
 }
@@ -55,6 +57,13 @@ fn repeat_any_policy(random: &mut Random, draft: &mut Draft) {
     }
 }
 
+/// A pair once more, or one that is like it, after it in the list.
+pub fn repeat_pair(random: &mut Random, draft: &mut Draft, alphabet: &[Identifier]) {
+    let own = [(); 2].map(|()| alphabet[random.below(alphabet.len())].clone()).into();
+    let likeness = Likeness::draw(random);
+    repeats::add_like(random, &mut draft.mappings, likeness, &own);
+}
+
 fn insert<T>(random: &mut Random, list: &mut Vec<T>, element: T) {
     list.insert(random.below(list.len() + 1), element);
 }
@@ -72,14 +81,18 @@ fn too_many_policies(random: &mut Random, draft: &mut Draft) {
     }
 }
 
-/// Pairs up to one above the limit, or further.
+/// Pairs up to one above the limit, or further. That one is one of the others,
+/// or it has identifiers that are new, too long or bad. Where the alphabet has
+/// too few pairs for the limit, those lacking have new issuers.
 fn too_many_pairs(random: &mut Random, draft: &mut Draft, alphabet: &[Identifier]) {
     let known = |random: &mut Random| alphabet[random.below(alphabet.len())].clone();
+    repeats::add_different(random, &mut draft.mappings, alphabet, MAX_LIST);
     while draft.mappings.len() < MAX_LIST {
-        draft.mappings.push((known(random), known(random)));
+        draft.mappings.push((identifier(random), known(random)));
     }
-    let issuer = odd_identifier(random, &alphabet[0]);
-    let subject = odd_identifier(random, &alphabet[0]);
+    let (issuer, subject) = draft.mappings[random.below(MAX_LIST)].clone();
+    let issuer = odd_identifier(random, &issuer);
+    let subject = odd_identifier(random, &subject);
     draft.mappings.push((issuer, subject));
     for _ in 0..random.below(3) {
         draft.mappings.push((known(random), known(random)));

@@ -285,6 +285,7 @@ mod tests {
     use super::*;
     use crate::known_extensions::{P, Q};
     use crate::register::BYTES;
+    use crate::repeats::{self, Likeness};
     use crate::tlv::Tlv;
 
     /// One policy, P.
@@ -350,6 +351,22 @@ mod tests {
         let (before, mut places) = (bytes.clone(), [7; PLACES]);
         assert_eq!(read_into(extensions, &mut bytes, &mut places), (14, 0));
         assert!(bytes == before && places == [0; PLACES]);
+    }
+
+    #[test]
+    fn every_two_pairs_of_a_full_list() {
+        for alike in repeats::in_full_lists() {
+            let [_, mappings, ..] = alike.draft().encode();
+            let extensions = Extensions { mappings: &mappings, ..Extensions::default() };
+            let (mut bytes, mut places) = (vec![0; BYTES], [7; PLACES]);
+            let answer = read_into(extensions, &mut bytes, &mut places);
+            if alike.likeness == Likeness::Same {
+                assert_eq!(answer, (REPEATED_PAIR, 0), "{alike:?}");
+                assert!(bytes.iter().all(|&byte| byte == 0) && places == [0; PLACES]);
+            } else {
+                assert_eq!(answer, (0, CERTIFICATE_HEAD + 2 * MAX_LIST), "{alike:?}");
+            }
+        }
     }
 
     #[test]

@@ -14,6 +14,8 @@ extern "C" {
         counts_len: usize,
     ) -> u32;
 
+    fn skandrulo_refuses(number: u8) -> u8;
+
     fn skandrulo_rewrite_sheet(
         sheet: *const u8,
         sheet_len: usize,
@@ -119,6 +121,14 @@ pub fn judge_record(
     counts: &mut [u16],
 ) -> Judged {
     judge(skandrulo_judge_record, record, authority, user, counts)
+}
+
+/// Whether the judge refuses with this number.
+pub fn refuses(number: u8) -> bool {
+    // SAFETY: the function takes a number, and no pointer.
+    let refuses = unsafe { skandrulo_refuses(number) };
+    assert!(refuses <= 1, "skandrulo_refuses({number}) is {refuses}");
+    refuses == 1
 }
 
 /// Reads a sheet and writes its path again into `buffer`.

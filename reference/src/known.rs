@@ -105,18 +105,12 @@ pub fn rows() -> Vec<Known> {
     let last_to = path(vec![certificate(&[ANY], &[]), certificate(&[ANY], &[(71, ANY)])]);
     let only_to = path(vec![certificate(&[70], &[(71, ANY)])]);
 
-    let one_issuer = path(vec![
-        certificate(&[90], &[(90, 91), (90, 92)]),
-        certificate(&[91, 92], &[]),
-    ]);
-    let one_subject = path(vec![
-        certificate(&[90, 92], &[(90, 91), (92, 91)]),
-        certificate(&[91], &[]),
-    ]);
-    let exchanged = path(vec![
-        certificate(&[90, 91], &[(90, 91), (91, 90)]),
-        certificate(&[90], &[]),
-    ]);
+    let one_issuer =
+        path(vec![certificate(&[90], &[(90, 91), (90, 92)]), certificate(&[91, 92], &[])]);
+    let one_subject =
+        path(vec![certificate(&[90, 92], &[(90, 91), (92, 91)]), certificate(&[91], &[])]);
+    let exchanged =
+        path(vec![certificate(&[90, 91], &[(90, 91), (91, 90)]), certificate(&[90], &[])]);
     let in_three = path(vec![
         certificate(&[90], &[(90, 91)]),
         certificate(&[91], &[(90, 91)]),

@@ -1,6 +1,6 @@
 //! Worked values of extensions, with what the reader answers.
 
-use crate::der::{INTEGER, SEQUENCE};
+use crate::der::{INTEGER, OBJECT_IDENTIFIER, SEQUENCE};
 use crate::draft::Identifier;
 use crate::path::MAX_LIST;
 use crate::random_extensions::Input;
@@ -188,18 +188,46 @@ pub fn read_rows() -> Vec<Row> {
             &[R],
         ),
         read(
-            "pairs that name anyPolicy, and one twice",
+            "pairs that name anyPolicy",
             [
                 "",
-                "30 30 30 0E 06 04 55 1D 20 00 06 06 2B 06 01 04 01 01 \
-                 30 0E 06 06 2B 06 01 04 01 01 06 04 55 1D 20 00 \
+                "30 20 30 0E 06 04 55 1D 20 00 06 06 2B 06 01 04 01 01 \
                  30 0E 06 06 2B 06 01 04 01 01 06 04 55 1D 20 00",
                 "",
                 "",
             ],
             Empty,
-            &[0, 0, 3, 0, 0, 0, 1, 2, 2, 2, 1, 1],
+            &[0, 0, 2, 0, 0, 0, 1, 2, 2, 1],
             &[&[0x2B, 0x06, 0x01, 0x04, 0x01, 0x01]],
+        ),
+        read(
+            "pairs of one issuer, of one subject, and exchanged",
+            [
+                "",
+                "30 4D 30 0F 06 03 2A 03 04 06 08 2B 06 01 04 01 82 37 15 \
+                 30 11 06 03 2A 03 04 06 0A 60 86 48 01 65 03 02 01 30 01 \
+                 30 16 06 0A 60 86 48 01 65 03 02 01 30 01 06 08 2B 06 01 04 01 82 37 15 \
+                 30 0F 06 08 2B 06 01 04 01 82 37 15 06 03 2A 03 04",
+                "",
+                "",
+            ],
+            Two,
+            &[0, 0, 4, 0, 0, 0, 2, 2, 4, 3, 3, 4, 3, 2],
+            &[R],
+        ),
+        read(
+            "pairs that differ in one bit",
+            [
+                "",
+                "30 24 30 0A 06 03 2A 03 04 06 03 2A 03 04 \
+                 30 0A 06 03 2A 03 04 06 03 2A 03 05 \
+                 30 0A 06 03 2A 03 05 06 03 2A 03 04",
+                "",
+                "",
+            ],
+            Two,
+            &[0, 0, 3, 0, 0, 0, 2, 2, 4, 2, 4, 2],
+            &[&[0x2A, 0x03, 0x05]],
         ),
         read(
             "both constraints, and inhibitAnyPolicy 0",
@@ -324,6 +352,7 @@ pub fn refused_rows() -> Vec<Row> {
     [
         list_rows(),
         identifier_rows(),
+        pair_rows(),
         full_rows(),
         header_rows(),
         qualifier_rows(),
@@ -358,6 +387,7 @@ fn list_rows() -> Vec<Row> {
         mappings("one pair more, the issuer at fault", full_pairs_and(&pair(&[], Q)), 13),
         mappings("one pair more, the subject at fault", full_pairs_and(&pair(P, &[])), 3),
         mappings("one pair more, of one identifier", full_pairs_and(&policy(P)), 3),
+        mappings("one pair more, that repeats", full_pairs_and(&pair(&[0x2B, 0], Q)), 3),
     ]
 }
 
@@ -406,11 +436,83 @@ fn identifier_rows() -> Vec<Row> {
     ]
 }
 
+/// Pairs that repeat: 11 at the second subject, after 13, 15 and 14, and before
+/// what comes later.
+fn pair_rows() -> Vec<Row> {
+    let [one, other] = [pair(P, Q), pair(Q, P)];
+    let twice = |issuer: &[u8], subject: &[u8]| sequence(&vec![pair(issuer, subject); 2]);
+    let again = |more: Vec<Vec<u8>>| sequence(&[vec![one.clone()], more].concat());
+    let longer = |after: &[u8]| sequence(&[identifier(P), identifier(Q), after.to_vec()]);
+    let new = pair(R, &[0x2A]);
+    vec![
+        mappings("a pair twice", again(vec![one.clone()]), 11),
+        mappings("a pair twice, the last", again(vec![other.clone(), one.clone()]), 11),
+        mappings("a pair twice, not the first", again(vec![other.clone(), other.clone()]), 11),
+        mappings("a pair twice, the last that there may be", last_of_full_pairs(), 11),
+        mappings("a new pair twice", sequence(&[new.clone(), other.clone(), new]), 11),
+        mappings("a pair of one policy, twice", twice(P, P), 11),
+        mappings("a pair twice, issuer anyPolicy", twice(&ANY_POLICY, P), 11),
+        mappings("a pair twice, subject anyPolicy", twice(P, &ANY_POLICY), 11),
+        mappings("anyPolicy to itself, twice", twice(&ANY_POLICY, &ANY_POLICY), 11),
+        mappings("a pair twice, but for its subject's tag", again(vec![constructed_subject()]), 13),
+        mappings("a pair twice, but for a subject of no octets", again(vec![pair(P, &[])]), 13),
+        mappings(
+            "a pair twice, but for its subject's length",
+            again(vec![subject_that_overruns()]),
+            13,
+        ),
+        mappings("a pair twice, but for its second subject", again(vec![policy(P)]), 13),
+        mappings(
+            "a pair twice, but for a long subject",
+            again(vec![pair(P, &long_identifier(33))]),
+            15,
+        ),
+        mappings("a pair twice, and octets after its subject", again(vec![longer(&[5, 0])]), 11),
+        mappings("a pair twice, and an octet after its subject", again(vec![longer(&[0])]), 11),
+        mappings(
+            "octets after a subject, then the pair",
+            sequence(&[longer(&[5, 0]), one.clone()]),
+            13,
+        ),
+        mappings("a pair twice, then 13", again(vec![one.clone(), hex("05 00")]), 11),
+        mappings("13, then a pair twice", again(vec![hex("05 00"), one.clone()]), 13),
+        mappings(
+            "a pair twice, then 15",
+            again(vec![one.clone(), pair(&long_identifier(33), P)]),
+            11,
+        ),
+        mappings(
+            "15, then a pair twice",
+            again(vec![pair(&long_identifier(33), P), one.clone()]),
+            15,
+        ),
+        mappings("a pair twice, then octets", and(again(vec![one.clone()]), &[0]), 11),
+    ]
+}
+
+/// As many pairs as there may be, of which the last is the first.
+fn last_of_full_pairs() -> Vec<u8> {
+    let pairs = (0..MAX_LIST as u8 - 1).chain([0]).map(|last| pair(&[0x2B, last], Q));
+    sequence(&pairs.collect::<Vec<_>>())
+}
+
+/// P and Q as a pair, but that the subject is constructed.
+fn constructed_subject() -> Vec<u8> {
+    sequence(&[identifier(P), value(0x26, Q)])
+}
+
+/// P and Q as a pair, but that the subject says an octet more than it has.
+fn subject_that_overruns() -> Vec<u8> {
+    let subject = [&[OBJECT_IDENTIFIER, Q.len() as u8 + 1], Q].concat();
+    sequence(&[identifier(P), subject])
+}
+
 /// Registers with one place left and with none.
 fn full_rows() -> Vec<Row> {
     let unknown = sequence(&[policy(P), policy(R)]);
     let one_more = sequence(&[pair(R, P), pair(P, &[0x2A])]);
     let known = [pair(P, Q), pair(&ANY_POLICY, P)];
+    let [one, new] = [pair(P, Q), pair(P, R)];
     let repeated = sequence(&[policy(P), policy(P), policy(R)]);
     let full = |name, policies: &[u8], mappings: &[u8], number| {
         refused(
@@ -440,6 +542,19 @@ fn full_rows() -> Vec<Row> {
             14,
         ),
         full("one policy more, that is new", &full_known_and_new(), &[], 3),
+        full("a pair twice, 512 stand", &[], &sequence(&[one.clone(), one.clone()]), 11),
+        full(
+            "11, then a new subject, 512 stand",
+            &[],
+            &sequence(&[one.clone(), one.clone(), new.clone()]),
+            11,
+        ),
+        full(
+            "a new subject, then a pair twice, 512 stand",
+            &[],
+            &sequence(&[one.clone(), new, one]),
+            14,
+        ),
         refused(
             "a new policy, then another as a subject, 511 stand",
             [unknown, one_more, vec![], vec![]],
@@ -588,14 +703,20 @@ fn later_rows() -> Vec<Row> {
     let long = sequence(&[policy(&long_identifier(33))]);
     let repeated = sequence(&[policy(R), policy(R)]);
     let too_many = full_pairs_and(&pair(P, Q));
+    let pair_twice = sequence(&vec![pair(R, P); 2]);
     let new = sequence(&[policy(R)]);
     let none = || hex("30 00");
     let refused = |name, values, number| refused(name, values, Standing::Two, number);
     vec![
         refused("15, then 13", [long.clone(), fault(), fault(), fault()], 15),
         refused("5, then 3", [repeated.clone(), none(), vec![], vec![]], 5),
+        refused("5, then 11", [repeated.clone(), pair_twice.clone(), vec![], vec![]], 5),
+        refused("3, then 11", [none(), pair_twice.clone(), vec![], vec![]], 3),
+        refused("13, then 11", [fault(), pair_twice.clone(), vec![], vec![]], 13),
         refused("3, then 5", [none(), repeated, fault(), vec![]], 3),
         refused("3 of the pairs, then 13", [new.clone(), too_many, fault(), fault()], 3),
+        refused("11, then 13", [new.clone(), pair_twice.clone(), fault(), fault()], 11),
+        refused("11, then 13 at the very end", [vec![], pair_twice.clone(), vec![], fault()], 11),
         refused("13, then 15", [fault(), long, vec![], vec![]], 13),
         refused(
             "a new policy, then 13 of the constraints",

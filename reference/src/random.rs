@@ -247,7 +247,7 @@ pub fn sheet(random: &mut Random) -> Vec<u8> {
 /// another fault before it or after it now and then, or cut around its end.
 fn sheet_with_repeat(random: &mut Random, mut path: Path) -> Vec<u8> {
     let (certificate, pair) = repeat_pair(random, &mut path);
-    match random.below(12) {
+    match random.below(13) {
         0 => repeat_policy(random, &mut path),
         1 => {
             repeat_pair(random, &mut path);
@@ -259,7 +259,8 @@ fn sheet_with_repeat(random: &mut Random, mut path: Path) -> Vec<u8> {
             return sheet;
         }
         5 => return extend(random, sheet::write(&path)),
-        6..=7 => {
+        6 => return flip_bit(random, sheet::write(&path)),
+        7..=8 => {
             let mut fields = sheet::fields(&path);
             let width = random.pick(&[5, 16, 16]);
             change_field(random, &mut fields, width);
@@ -318,7 +319,7 @@ pub fn change_field(random: &mut Random, fields: &mut [Field], width: usize) {
 }
 
 /// A policy twice in one certificate's list, where there is room for it.
-fn repeat_policy(random: &mut Random, path: &mut Path) {
+pub fn repeat_policy(random: &mut Random, path: &mut Path) {
     let place = random.below(path.certificates.len());
     let policies = &mut path.certificates[place].policies;
     if !policies.is_empty() && policies.len() < MAX_LIST {
@@ -327,17 +328,22 @@ fn repeat_policy(random: &mut Random, path: &mut Path) {
     }
 }
 
-/// A pair twice in one certificate's list, or one that is like another, and now
-/// and then one that names anyPolicy. Returns the places of the certificate and
-/// of the later pair.
+/// A pair twice in one certificate's list, or one that is like another. Returns
+/// the places of the certificate and of the later pair.
 pub fn repeat_pair(random: &mut Random, path: &mut Path) -> (usize, usize) {
+    let likeness = Likeness::draw(random);
+    add_pair_like(random, path, likeness)
+}
+
+/// A pair that is like one of its certificate's, and after it; now and then one of
+/// them names anyPolicy. Returns the same.
+pub fn add_pair_like(random: &mut Random, path: &mut Path, likeness: Likeness) -> (usize, usize) {
     let certificate = random.below(path.certificates.len());
     let mappings = &mut path.certificates[certificate].mappings;
     if random.chance(15) {
         name_any(random, mappings);
     }
     let own = [(); 2].map(|()| random.word().max(2)).into();
-    let likeness = Likeness::draw(random);
     (certificate, repeats::add_like(random, mappings, likeness, &own))
 }
 
@@ -616,10 +622,10 @@ mod tests {
         assert!([0, 3, 4, 5, 11].into_iter().all(|number| times[number] >= 50), "{times:?}");
     }
 
-    /// Repeats alone, and those that come with other faults: 11 where none comes
-    /// before, also of a pair that names anyPolicy, and 1 where the sheet is cut.
+    /// 11 for repeats alone and before other faults, the numbers of faults before
+    /// them, 1 where the sheet is cut, and 0 for pairs that are only like others.
     #[test]
-    fn random_sheets_get_every_refusal_where_a_pair_repeats() {
+    fn sheets_with_repeats_get_every_refusal() {
         let mut random = Random::new(6);
         let mut times = [0; NUMBERS];
         for _ in 0..5_000 {
@@ -628,7 +634,7 @@ mod tests {
             times[usize::from(sheet::read(&sheet).err().unwrap_or(0))] += 1;
         }
         assert!([0, 1, 3, 4, 5, 6, 11].into_iter().all(|number| times[number] >= 20), "{times:?}");
-        assert!(times[0] >= 500 && times[11] >= 2_000, "{times:?}");
+        assert!(times[0] >= 200 && times[11] >= 2_000, "{times:?}");
     }
 
     #[test]
@@ -665,7 +671,8 @@ mod tests {
                 path.certificates.iter().map(|one| &one.mappings).collect();
             let within = |like: fn((u16, u16), (u16, u16)) -> bool| {
                 let two = |list: &&Vec<(u16, u16)>| {
-                    list.iter().any(|&one| list.iter().any(|&other| one != other && like(one, other)))
+                    list.iter()
+                        .any(|&one| list.iter().any(|&other| one != other && like(one, other)))
                 };
                 usize::from(lists.iter().any(two))
             };

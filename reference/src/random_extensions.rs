@@ -7,6 +7,7 @@ use crate::extensions::{Extensions, PLACES};
 use crate::path::MAX_LIST;
 use crate::random::Random;
 use crate::register::{self, ANY_POLICY, BYTES, LONGEST, MOST};
+use crate::repeats;
 use crate::tlv::Tlv;
 
 /// A value that is lent: the first octets of a buffer.
@@ -250,7 +251,7 @@ fn list_length(random: &mut Random) -> usize {
     }
 }
 
-/// What the extensions of a certificate say. No policy repeats.
+/// What the extensions of a certificate say. No policy and no pair repeats.
 pub fn draft(random: &mut Random, alphabet: &[Identifier]) -> Draft {
     let mut draft = Draft::default();
     if random.chance(85) {
@@ -262,9 +263,8 @@ pub fn draft(random: &mut Random, alphabet: &[Identifier]) -> Draft {
         draft.policies = listed.map(with_qualifiers).collect();
     }
     if random.chance(50) {
-        let side = |random: &mut Random| alphabet[random.below(alphabet.len())].clone();
         let length = list_length(random);
-        draft.mappings = (0..length).map(|_| (side(random), side(random))).collect();
+        repeats::add_different(random, &mut draft.mappings, alphabet, length);
     }
     if random.chance(50) {
         draft.constraints = Some(PolicyConstraints {
@@ -438,7 +438,8 @@ pub fn input(random: &mut Random, registers: &mut Registers) -> Input {
 mod tests {
     use super::*;
     use crate::der;
-    use crate::extensions::read_into;
+    use crate::extensions::{read_into, ANSWERS};
+    use crate::sheet::REPEATED_PAIR;
 
     /// The number of an identifier in a list, to which it is added if it is new.
     fn number(identifier: &Identifier, entries: &mut Vec<Identifier>) -> u16 {
@@ -507,6 +508,26 @@ mod tests {
         }
     }
 
+    /// A draft with a pair that is like another: 11 where it is the same.
+    #[test]
+    fn a_draft_with_a_pair_twice_is_refused() {
+        let mut random = Random::new(9);
+        let mut times = [0; 2];
+        for _ in 0..3_000 {
+            let register = drawn_register(&mut random, 50);
+            let alphabet = alphabet(&mut random, &register);
+            let mut draft = draft(&mut random, &alphabet);
+            faults::repeat_pair(&mut random, &mut draft, &alphabet);
+            let repeats = repeats::first_repeat(&draft.mappings).is_some();
+            let input = Input::new(draft.encode(), 0, &register[..]);
+            let (mut register, mut read) = (input.register.clone(), [7; PLACES]);
+            let (number, _) = read_into(input.extensions(), &mut register, &mut read);
+            assert_eq!(number, if repeats { REPEATED_PAIR } else { 0 }, "{draft:X?}");
+            times[usize::from(repeats)] += 1;
+        }
+        assert!(times.iter().all(|&times| times >= 300), "{times:?}");
+    }
+
     #[test]
     fn subidentifiers() {
         for (number, octets) in [
@@ -554,7 +575,8 @@ mod tests {
                 registers.keep(&register);
             }
         }
-        let answers = [0, 3, 5, 7, 13, 14, 15, 20];
+        let answers = [0, 3, 5, 7, 11, 13, 14, 15, 20];
+        assert_eq!(ANSWERS.map(usize::from), answers);
         assert!(answers.into_iter().all(|number| times[number] >= 100), "{times:?}");
         assert_eq!(answers.map(|number| times[number]).iter().sum::<usize>(), 10_000);
     }

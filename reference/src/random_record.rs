@@ -99,8 +99,11 @@ pub fn record(random: &mut Random) -> Vec<u16> {
         16..=17 => {
             let mut path = random::path(random);
             random::repeat_pair(random, &mut path);
+            if random.chance(25) {
+                random::repeat_policy(random, &mut path);
+            }
             let mut record = odd(&path, random);
-            if random.chance(20) {
+            if random.chance(25) {
                 change(&mut record, random);
             }
             cut_or_whole(record, random)

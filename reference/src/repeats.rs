@@ -1,5 +1,6 @@
 //! Pairs that repeat within one certificate, and pairs that almost do.
 
+use crate::draft::{Draft, Identifier};
 use crate::path::{Certificate, Path, ANY, MAX_LIST};
 use crate::random::Random;
 use crate::sheet;
@@ -88,6 +89,11 @@ pub fn add_different<T: Clone + PartialEq>(
     }
 }
 
+/// The place of the first pair that stands before it already, if there is one.
+pub fn first_repeat<T: PartialEq>(pairs: &[T]) -> Option<usize> {
+    (0..pairs.len()).find(|&place| pairs[..place].contains(&pairs[place]))
+}
+
 /// As many pairs as there may be, of which one is like another before it and all
 /// else differs.
 #[derive(Clone, Debug)]
@@ -129,6 +135,18 @@ impl Alike {
     pub fn end(&self) -> usize {
         end_of_pair(&self.path(), 0, self.place)
     }
+
+    /// Extensions that have the pairs and nothing else.
+    pub fn draft(&self) -> Draft {
+        let pairs = self.pairs.iter();
+        let mappings = pairs.map(|&(issuer, subject)| (identifier(issuer), identifier(subject)));
+        Draft { mappings: mappings.collect(), ..Draft::default() }
+    }
+}
+
+/// An identifier of its own for each policy below 16,384.
+fn identifier(policy: u16) -> Identifier {
+    vec![0x2B, (policy / 128) as u8, (policy % 128) as u8]
 }
 
 /// The policies, ascending and without repeats.
@@ -145,13 +163,11 @@ fn sorted(policies: impl Iterator<Item = u16>) -> Vec<u16> {
 pub fn end_of_pair(path: &Path, certificate: usize, place: usize) -> usize {
     let mut start = path.clone();
     start.certificates.truncate(certificate + 1);
-    let Certificate { self_issued, policies, mappings, .. } = &start.certificates[certificate];
-    start.certificates[certificate] = Certificate {
-        self_issued: *self_issued,
-        policies: policies.clone(),
-        mappings: mappings[..=place].to_vec(),
-        ..Certificate::default()
-    };
+    let last = &mut start.certificates[certificate];
+    last.mappings.truncate(place + 1);
+    last.require_explicit_policy = None;
+    last.inhibit_policy_mapping = None;
+    last.inhibit_any_policy = None;
     let bits: usize = sheet::fields(&start).iter().map(|&(_, width)| width).sum();
     (bits - 3).div_ceil(8)
 }
@@ -171,10 +187,8 @@ mod tests {
     fn the_ends_of_the_pairs_of_the_known_rows() {
         for row in known::refused_rows() {
             if row.number == sheet::REPEATED_PAIR {
-                let repeats = |one: &Certificate| (0..one.mappings.len()).find(|&place| {
-                    one.mappings[..place].contains(&one.mappings[place])
-                });
-                let mut places = row.path.certificates.iter().map(repeats).enumerate();
+                let lists = row.path.certificates.iter().map(|one| &one.mappings);
+                let mut places = lists.map(|pairs| first_repeat(pairs)).enumerate();
                 let (certificate, place) =
                     places.find_map(|(at, place)| Some((at, place?))).expect("a repeat");
                 assert_eq!(end_of_pair(&row.path, certificate, place), row.bytes, "{}", row.name);
@@ -188,8 +202,8 @@ mod tests {
         assert_eq!(all.len(), 4 * MAX_LIST * (MAX_LIST - 1) / 2);
         for Alike { likeness, place, pairs } in all {
             assert_eq!(pairs.len(), MAX_LIST);
-            let repeats = pairs[..place].contains(&pairs[place]);
-            assert_eq!(repeats, likeness == Likeness::Same);
+            let same = likeness == Likeness::Same;
+            assert_eq!(first_repeat(&pairs), same.then_some(place));
         }
     }
 
@@ -203,8 +217,8 @@ mod tests {
             let likeness = random.pick(&LIKENESSES);
             let place = add_like(&mut random, &mut pairs, likeness, &(7, 8));
             assert_eq!(pairs.len(), (count + 1).clamp(2, MAX_LIST));
-            let like = |pair: &&(u16, u16)| likeness.pair(pair, &(7, 8)) == pairs[place];
-            assert!(pairs[..place].iter().any(|pair| like(&pair)));
+            let mut before = pairs[..place].iter();
+            assert!(before.any(|pair| likeness.pair(pair, &(7, 8)) == pairs[place]));
             if likeness == Likeness::Same {
                 let first = pairs.iter().position(|pair| *pair == pairs[place]).unwrap();
                 next += usize::from(first + 1 == place);
@@ -223,8 +237,7 @@ mod tests {
             let mut pairs = Vec::new();
             add_different(&mut random, &mut pairs, &from, count);
             assert!((least..=count).contains(&pairs.len()), "{pairs:?}");
-            let repeats = (0..pairs.len()).any(|place| pairs[..place].contains(&pairs[place]));
-            assert!(!repeats, "{pairs:?}");
+            assert_eq!(first_repeat(&pairs), None, "{pairs:?}");
         }
     }
 }

@@ -8,8 +8,8 @@
 use std::env;
 use std::process::ExitCode;
 
-use reference::answer::{judge_path, judge_sheet, Answer, PLACES};
-use reference::causes::Causes;
+use reference::answer::{judge_path, judge_sheet, Answer, NUMBERS, PLACES};
+use reference::causes::{self, Causes};
 use reference::extensions::{self, ANSWERS};
 use reference::path::{Path, MAX_CERTIFICATES};
 use reference::random::{self, Random, FULL_KINDS};
@@ -28,7 +28,7 @@ const OFTEN_READ: usize = 1_000;
 struct Tally {
     passed: usize,
     failed: usize,
-    answers: [usize; 11],
+    answers: [usize; NUMBERS],
     causes: Causes,
     trees: usize,
     over_cap: usize,
@@ -88,8 +88,10 @@ fn check_sheet(tally: &mut Tally, random: &mut Random, sheet: &[u8]) {
         tally.check(unchanged, "a refusal changed a table", sheet);
     }
     if answer.number == sheet::WRONG_COUNT {
-        let caused = tally.causes.count(sheet);
-        tally.check(caused, "3 without n 0 or a present count of 0", sheet);
+        tally.causes.count(sheet);
+    }
+    if let Some(agrees) = causes::agrees(sheet, answer.number) {
+        tally.check(agrees, "the sheet has not the cause of its answer", sheet);
     }
     match sheet::read(sheet) {
         Ok(path) if answer.number != sheet::TOO_SHORT => {
@@ -173,7 +175,8 @@ fn check_extensions(tally: &mut Tally, random: &mut Random, inputs: u64) -> [usi
     times
 }
 
-/// The known paths, full ones and case B's family.
+/// The known paths, those that are refused with every cut, full ones and case B's
+/// family.
 fn check_made(tally: &mut Tally, random: &mut Random) {
     for row in known::rows() {
         let sheet = sheet::write(&row.path);
@@ -182,6 +185,16 @@ fn check_made(tally: &mut Tally, random: &mut Random) {
         let (mut authority, mut user) = ([9; PLACES], [9; PLACES]);
         let answer = judge_sheet(&sheet, &mut authority, &mut user);
         tally.check(answer == row.answer, row.name, &sheet);
+    }
+    for row in known::refused_rows() {
+        check_round_trip(tally, &row.path);
+        let sheet = sheet::write(&row.path);
+        for length in 0..=sheet.len() {
+            let cut = &sheet[..length];
+            check_sheet(tally, random, cut);
+            let number = if length < row.bytes { sheet::ENDS_EARLY } else { row.number };
+            tally.check(sheet::read(cut) == Err(number), row.name, cut);
+        }
     }
     for n in 2..=MAX_CERTIFICATES {
         let mut paths = vec![random::doubling(n)];
@@ -196,7 +209,7 @@ fn check_made(tally: &mut Tally, random: &mut Random) {
 /// Random sheets, of which each answer and each cause of answer 3 must come up
 /// often, and random paths.
 fn check_random(tally: &mut Tally, random: &mut Random, sheets: u64) {
-    tally.answers = [0; 11];
+    tally.answers = [0; NUMBERS];
     for _ in 0..sheets {
         let sheet = random::sheet(random);
         check_sheet(tally, random, &sheet);

@@ -31,8 +31,8 @@ const REGISTERS: [usize; 5] = [0, BYTES - 1, BYTES, BYTES + 1, 20_000];
 const LENT_PLACES: [usize; 5] = [0, PLACES - 1, PLACES, PLACES + 1, 2 * PLACES];
 
 /// What the plain reader answers and leaves.
-struct Expected {
-    number: u8,
+pub struct Expected {
+    pub number: u8,
     length: usize,
     register: Vec<u8>,
     certificate: Vec<u16>,
@@ -108,7 +108,7 @@ impl Run {
     /// One input: the proved reader against the plain one. The result, every
     /// byte of the register and every place of the certificate are compared, and
     /// the values and all guards with what they were.
-    fn read_extensions(&mut self, input: &Input) -> Expected {
+    pub fn read_extensions(&mut self, input: &Input) -> Expected {
         let random = &mut self.random;
         let mut lend = |buffer: &[u8], length| Lent::part(buffer, length, random, Random::byte);
         let mut values = input.values.each_ref().map(|value| lend(&value.buffer, value.length));
@@ -176,7 +176,7 @@ impl Run {
 
     /// Every one-bit damage and every cut of the values of an input. The octets
     /// that a cut takes off still follow the value.
-    fn damaged_values(&mut self, input: &Input) {
+    pub fn damaged_values(&mut self, input: &Input) {
         let mut damaged = input.clone();
         for (place, value) in input.values.iter().enumerate() {
             for bit in 0..value.length * 8 {

@@ -10,18 +10,20 @@ mod extensions;
 mod limits;
 mod pieces;
 mod records;
+mod repeats;
 mod run;
 
 use std::env;
 use std::process::ExitCode;
 
-use reference::answer::{Answer, DEPTHS, PLACES};
+use reference::answer::{Answer, DEPTHS, NUMBERS, PLACES};
 use reference::beside::{JUDGE_RECORD, JUDGE_SHEET};
 use reference::causes::Causes;
 use reference::harm::HARMS;
 use reference::known::{self, E_SHEET};
 use reference::path::{Path, MAX_CERTIFICATES};
 use reference::random::{self, Full, Random, FULL_KINDS};
+use reference::repeats::Likeness;
 use reference::{everyday, record, sheet, tree};
 
 use run::{Judgement, Lengths, Run, BUFFERS, COUNTS, ENOUGH, RECORDS, TABLES};
@@ -39,7 +41,7 @@ const DAMAGE_CAP: usize = 2_000;
 
 impl Run {
     /// One sheet with tables that suffice, a rewrite, and its record read.
-    fn once(&mut self, sheet: &[u8], cap: usize) {
+    pub fn once(&mut self, sheet: &[u8], cap: usize) {
         self.rewrite(sheet, sheet::LONGEST);
         self.read_record(sheet, record::LONGEST);
         let authority = self.random.pick(&TABLES[2..]);
@@ -48,7 +50,7 @@ impl Run {
     }
 
     /// One sheet with all lengths of tables, counts, buffers and records.
-    fn all_lengths(&mut self, sheet: &[u8]) {
+    pub fn all_lengths(&mut self, sheet: &[u8]) {
         for authority in TABLES {
             for user in TABLES {
                 self.judge(sheet, Lengths { authority, user, counts: DEPTHS }, tree::CAP);
@@ -121,7 +123,7 @@ impl Run {
     /// certificate with a mapping that test 9 would not let pass, and each cause
     /// of answer 3.
     fn random_sheets(&mut self, sheets: u64) {
-        let mut answers = [0; 11];
+        let mut answers = [0; NUMBERS];
         let mut causes = Causes::default();
         let mut ignored = 0;
         for _ in 0..sheets {
@@ -148,7 +150,7 @@ impl Run {
     }
 
     /// Every one-bit damage and every cut of a dozen sheets, every cut of
-    /// them with a policy at fault, and some longer forms.
+    /// them with a policy at fault and with a pair twice, and some longer forms.
     fn damage(&mut self) {
         for path in self.dozen() {
             let sheet = sheet::write(&path);
@@ -162,16 +164,19 @@ impl Run {
             }
             let mut fields = sheet::fields(&path);
             random::change_field(&mut self.random, &mut fields, 16);
-            let faulty = sheet::pack(&fields);
-            for length in 0..=faulty.len() {
-                self.once(&faulty[..length], DAMAGE_CAP);
+            let mut repeated = path.clone();
+            random::add_pair_like(&mut self.random, &mut repeated, Likeness::Same);
+            for faulty in [sheet::pack(&fields), sheet::write(&repeated)] {
+                for length in 0..=faulty.len() {
+                    self.once(&faulty[..length], DAMAGE_CAP);
+                }
             }
             self.byte_more(&sheet);
         }
     }
 
     /// One sheet with a byte more.
-    fn byte_more(&mut self, sheet: &[u8]) {
+    pub fn byte_more(&mut self, sheet: &[u8]) {
         for byte in [0x00, 0x01, 0x80, 0xFF] {
             let longer = [sheet, &[byte]].concat();
             self.once(&longer, DAMAGE_CAP);
@@ -243,6 +248,7 @@ fn main() -> ExitCode {
     let mut run = Run { random: Random::new(seed), passed: 0, failed: 0, trees: 0, over_cap: 0 };
     println!("seed {seed}, {sheets} random sheets");
     run.known();
+    run.repeats();
     run.every_count();
     run.large();
     run.random_sheets(sheets);

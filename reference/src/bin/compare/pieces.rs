@@ -1,7 +1,7 @@
 //! Sheets that arrive in pieces: the proved judge of pieces against the plain
 //! judge, and against the proved judge of whole sheets.
 
-use reference::answer::Answer;
+use reference::answer::{Answer, NUMBERS};
 use reference::everyday;
 use reference::harm::HARMS;
 use reference::judge;
@@ -50,7 +50,7 @@ impl Arriving {
 /// The sheets in pieces so far.
 #[derive(Default)]
 struct Tally {
-    answers: [usize; 11],
+    answers: [usize; NUMBERS],
     sheets: usize,
     pieces: usize,
     empty: usize,
@@ -85,10 +85,11 @@ fn differing(parts: &[(&'static str, bool)]) -> String {
     names.join(", ")
 }
 
-/// The known paths, the everyday ones, full ones, case B's family and those made
-/// to harm.
+/// The known paths, those that are refused too, the everyday ones, full ones, case
+/// B's family and those made to harm.
 fn made_paths(random: &mut Random) -> Vec<Path> {
     let mut paths: Vec<Path> = known::rows().into_iter().map(|row| row.path).collect();
+    paths.extend(known::refused_rows().into_iter().map(|row| row.path));
     paths.extend(everyday::shapes().iter().map(|shape| shape.path()));
     for n in 2..=MAX_CERTIFICATES {
         paths.push(random::doubling(n));
@@ -154,7 +155,7 @@ impl Run {
         });
         let expected = expected(lengths, |authority, user| fed.finish(authority, user));
         let parts = [
-            ("number", finished.judged.number <= 10),
+            ("number", usize::from(finished.judged.number) < NUMBERS),
             ("graph", finished.shows(&expected)),
             ("whole", finished == whole),
             ("state", state.holds(&FRESH)),
@@ -193,6 +194,13 @@ impl Run {
             let pieces = Way::Few.cut(&sheet, &mut self.random);
             let answer = self.in_pieces(&mut arriving, &pieces, ENOUGH);
             self.check(answer == row.answer, || format!("row {} in pieces", row.name), &sheet);
+        }
+        for row in known::refused_rows() {
+            let sheet = sheet::write(&row.path);
+            let pieces = Way::Few.cut(&sheet, &mut self.random);
+            let answer = self.in_pieces(&mut arriving, &pieces, ENOUGH);
+            let refused = answer == Answer::bare(row.number, 0);
+            self.check(refused, || format!("row {} in pieces", row.name), &sheet);
         }
     }
 
@@ -270,7 +278,7 @@ impl Run {
     /// States such as no feeding gives: finished at once, fed an empty piece or
     /// others, or fed the rest of a sheet whose first piece they hold.
     fn any_states(&mut self, states: u64) {
-        let mut answers = [0; 11];
+        let mut answers = [0; NUMBERS];
         for _ in 0..states {
             let random = &mut self.random;
             let sheet = random_pieces::sheet(random);

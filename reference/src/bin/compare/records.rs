@@ -1,15 +1,17 @@
 //! Records that no sheet gives, judged and written.
 
+use reference::answer::NUMBERS;
 use reference::path::{Path, MAX_CERTIFICATES, MAX_LIST};
 use reference::random::FULL_KINDS;
 use reference::random_record::{self, OTHERS};
+use reference::repeats::Likeness;
 use reference::{decoded, random, record};
 
 use crate::run::{Run, BUFFERS};
 use crate::{MORE, OFTEN};
 
 /// The answers that a record can get.
-const ANSWERS: [usize; 8] = [0, 3, 4, 5, 7, 8, 9, 10];
+const ANSWERS: [usize; 9] = [0, 3, 4, 5, 7, 8, 9, 10, 11];
 
 /// The numbers put at two places at once.
 const PAIRED: [u16; 3] = [0, 5, MAX_LIST as u16 + 1];
@@ -17,7 +19,7 @@ const PAIRED: [u16; 3] = [0, 5, MAX_LIST as u16 + 1];
 /// The records compared so far, by the answer expected.
 #[derive(Default)]
 struct Tally {
-    times: [usize; 11],
+    times: [usize; NUMBERS],
 }
 
 impl Run {
@@ -53,8 +55,8 @@ impl Run {
         }
     }
 
-    /// The records of a dozen paths: every cut, also with a number at fault,
-    /// and each of a few other numbers at every place.
+    /// The records of a dozen paths: every cut, also with a number at fault and
+    /// with a pair twice, and each of a few other numbers at every place.
     fn damaged_records(&mut self, tally: &mut Tally) {
         for path in self.dozen() {
             let record = random_record::odd(&path, &mut self.random);
@@ -62,6 +64,9 @@ impl Run {
             let mut faulty = record::numbers(&path);
             random_record::change(&mut faulty, &mut self.random);
             self.every_cut(&faulty, tally);
+            let mut repeated = path.clone();
+            random::add_pair_like(&mut self.random, &mut repeated, Likeness::Same);
+            self.every_cut(&record::numbers(&repeated), tally);
             for place in 0..record.len() {
                 self.others_at(&record, place, tally);
             }

@@ -189,8 +189,8 @@ impl Run {
     }
 
     /// One sheet, one set of tables: the proved judge, on the sheet and on its
-    /// record, against the graph judge and, within the cap, the tree judge. Where
-    /// it is answered 3 it must have a cause. Returns the expected answer.
+    /// record, against the graph judge and, within the cap, the tree judge. The
+    /// sheet's first cause must be that of its answer. Returns the expected answer.
     pub fn judge(&mut self, sheet: &[u8], lengths: Lengths, cap: usize) -> Answer {
         let expected =
             expected(lengths, |authority, user| (JUDGE_SHEET.plain)(sheet, authority, user));
@@ -201,9 +201,9 @@ impl Run {
             }
             self.answered(&JUDGE_RECORD, &record::numbers(&path), lengths, &expected);
         }
-        if expected.number == sheet::WRONG_COUNT {
-            let what = || "3 without n 0 or a present count of 0".to_string();
-            self.check(causes::cause(sheet).is_some(), what, sheet);
+        if let Some(agrees) = causes::agrees(sheet, expected.number) {
+            let what = || format!("the sheet has not the cause of its answer {}", expected.number);
+            self.check(agrees, what, sheet);
         }
         expected
     }
