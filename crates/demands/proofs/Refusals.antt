@@ -1,13 +1,10 @@
 -- What `refuses` says of a number, it says of the outcome: with a number that refuses both tables are unchanged, the place is 0 and every count is 0; with
 -- another the outcome is a verdict.
 use Prim.Native.Nat.{ℕ, zero, suc}
-use mathlib.Core.Bool.{true, false, _||_}
+use mathlib.Core.Bool.{true, false}
 use mathlib.Core.List.{List}
-use mathlib.Core.Path.{_≡_, refl, sym, ap, _∙_}
-use lib.Dec.{ltb}
-use lib.ListN.{length}
+use mathlib.Core.Path.{_≡_, refl}
 use Rattle.rules.specs.declared.Path.{Path as StoredPath}
-use Rattle.rules.specs.Limits as Limits
 use Rattle.rules.specs.Numbers as Numbers
 use Rattle.rules.specs.Sets.{empty}
 use Rattle.rules.specs.Paths.{Path}
@@ -17,7 +14,7 @@ use Rattle.rules.specs.Graph as Graph
 use Rattle.rules.specs.Sheet.{Read, refused, read, read-sheet}
 use Rattle.rules.specs.Judge.{Outcome, refusal, verdict, unless-short, after-reading, sheet-judged, unless-fault, path-judged}
 use Rattle.laws.proofs.Sets.{clash}
-use Rattle.demands.proofs.Numbered.{Refusal, Known, refuses, reads, sheet-known, refusal-known, path-fault-refusal, short-known, verdict-known, judged-verdict}
+use Rattle.demands.proofs.Numbered.{Refusal, Known, refuses, sheet-known, refusal-known, path-fault-refusal, short-known, verdict-known, judged-verdict}
 use Rattle.demands.proofs.Promise.{unless-short-all}
 
 -- a refusal by a number that refuses, or a verdict by one that does not

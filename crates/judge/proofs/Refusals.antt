@@ -2,14 +2,13 @@
 use Prim.Native.Nat.{ℕ, _≤_}
 use mathlib.Core.Bool.{true}
 use mathlib.Core.List.{List}
-use mathlib.Core.Path.{_≡_, sym, ap, subst, _∙_}
+use mathlib.Core.Path.{_≡_, sym, ap, _∙_}
 use lib.ListN.{length}
 use Rattle.rules.specs.declared.Answer.{Answer as StoredAnswer}
 use Rattle.rules.specs.declared.Path.{Path as StoredPath}
 use Rattle.rules.specs.Numbers as Numbers
 use Rattle.rules.specs.Graph as Graph
 use Rattle.rules.specs.Judge.{Outcome, outcome, refusal, sheet-judged, path-judged}
-use Rattle.agreement.proofs.Same.{WellFormed}
 use Rattle.sheet.proofs.Sheet.{read-writable}
 use Rattle.sheet.proofs.WellFormed.{well-formed, decoded-well-formed}
 use Rattle.demands.proofs.Promise.{outcome-number}
