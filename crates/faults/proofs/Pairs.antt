@@ -9,10 +9,10 @@ use lib.Dec.{eqb}
 use lib.ListN.{length, take, getD}
 use lib.Seq.{slice, take-suc, length-take-le}
 use borrow.Author.Tests.{eq-eqb, ne-eqb}
-use Rattle.laws.proofs.Sets.{and-false, or-right, or-false}
+use Rattle.laws.proofs.Sets.{and-false, or-none, or-right, or-false}
 use Rattle.rules.specs.Numbers as Numbers
 use Rattle.rules.specs.Paths.{Mapping}
-use Rattle.rules.specs.Sets.{pick}
+use Rattle.rules.specs.Sets.{pick, _∈_}
 use Rattle.rules.specs.Layout.{pairs}
 use Rattle.rules.specs.Faults.{_or-else_, policy-fault, pair-among, pair-fault, pairs-fault, mappings-fault}
 use Rattle.faults.proofs.Laws.{or-else-none, or-else-fault, policy-none, policy-some, left-cons, left-none}
@@ -67,6 +67,13 @@ module _ (D S i : ℕ) (ds ss : List ℕ) (k : i < length ds) (l : i < length ss
 
   pub among-other-subject : (getD ss i 0 ≡ S → ⊥) → pair-among D S (pairs (take (i + 1) ds) (take (i + 1) ss)) ≡ pair-among D S (pairs (take i ds) (take i ss))
   among-other-subject z = among-more refl (ne-eqb S _ (λ e. z (sym e))) ∙ ap (λ b. pair-among D S (pairs (take i ds) (take i ss)) || b) (and-false (eqb D (getD ds i 0))) ∙ or-false _
+
+-- no pair is, where its issuer is none of theirs
+pub among-new : (D S : ℕ) (ds ss : List ℕ) → D ∈ ds ≡ false → pair-among D S (pairs ds ss) ≡ false
+unfolding pairs pair-among _∈_
+among-new D S [] ss e = refl
+among-new D S (d ∷ ds) [] e = refl
+among-new D S (d ∷ ds) (s ∷ ss) e = let r = or-none (eqb D d) e in ap₂ (λ a b. (a && eqb S s) || b) (r .0) (among-new D S ds ss (r .1))
 
 -- the pairs left from place i, after those before it
 

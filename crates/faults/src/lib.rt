@@ -36,14 +36,15 @@ pub fn seen(values: &[u16], before: usize, policy: u16) -> bool
     requires { ⌜ before ≤ length (now values) ⌝ }
     ensures { λ r. ⌜ r ≡ policy ∈ take before (now (values .entry)) ⌝ }
 {
+    let mut found = false;
     let mut i = 0;
     while i < before {
         if values[i] == policy {
-            return true;
+            found = true;
         }
         i += 1;
     }
-    false
+    found
 }
 
 // The fault of a list's count, or else of its first policy that is 0 or, in a `distinct` list, repeats.

@@ -1,4 +1,5 @@
 // The fault of a pair, for all who read one: the sheet's reader, the extensions' reader, and the refusals of a path handed over decoded.
+use crate::seen;
 use rules::PAIR_REPEATS;
 use rules::POLICY_ZERO;
 ghost use mathlib.Core.Path.{_≡_};
@@ -19,8 +20,8 @@ fn policy_fault(policy: u16) -> u8
     0
 }
 
-// The fault of a pair that is among the first `before` pairs.
-fn repeat_fault(issuers: &[u16], subjects: &[u16], before: usize, issuer: u16, subject: u16) -> u8
+// The fault of a pair that is among the first `before` pairs, each looked at.
+fn sought_fault(issuers: &[u16], subjects: &[u16], before: usize, issuer: u16, subject: u16) -> u8
     requires { ⌜ before ≤ length (now issuers) ⌝ }
     requires { ⌜ before ≤ length (now subjects) ⌝ }
     ensures { λ r. ⌜ r ≡ pick (pair-among issuer subject (pairs (take before (now (issuers .entry))) (take before (now (subjects .entry))))) Numbers.pair-repeats 0 ⌝ }
@@ -38,6 +39,18 @@ fn repeat_fault(issuers: &[u16], subjects: &[u16], before: usize, issuer: u16, s
         i += 1;
     }
     fault
+}
+
+// The same, where most often no pair has this issuer.
+fn repeat_fault(issuers: &[u16], subjects: &[u16], before: usize, issuer: u16, subject: u16) -> u8
+    requires { ⌜ before ≤ length (now issuers) ⌝ }
+    requires { ⌜ before ≤ length (now subjects) ⌝ }
+    ensures { λ r. ⌜ r ≡ pick (pair-among issuer subject (pairs (take before (now (issuers .entry))) (take before (now (subjects .entry))))) Numbers.pair-repeats 0 ⌝ }
+{
+    if seen(issuers, before, issuer) {
+        return sought_fault(issuers, subjects, before, issuer, subject);
+    }
+    0
 }
 
 // The first fault of two.

@@ -1,5 +1,5 @@
--- The numbers of document 01's table, "What the judge says", and those that document 02 adds to it. Which of them the judge refuses with says `refuses`;
--- 13 upward are refusals of the extensions' reader, and the others verdicts.
+-- The numbers of document 01's table, "What the judge says", and those that document 02 adds to it. `refuses` says
+-- which of them the judge refuses with; 13 upward are refusals of the extensions' reader, and the others verdicts.
 use Prim.Native.Nat.{ℕ}
 use mathlib.Core.Bool.{Bool, _&&_, _||_}
 use lib.Dec.{eqb, leb}
