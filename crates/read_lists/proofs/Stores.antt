@@ -1,33 +1,11 @@
--- Numbers stored in a stretch of a record: one number more, a store before the stretch, two stretches side by side; and whether a
--- list's first places hold a number.
-use Prim.Native.Nat.{ℕ, suc, _+_, _-_, _≤_, _<_}
-use native.Mathlib.Numerals.{add-one}
+-- Numbers stored in a stretch of a record: one number more, the stretch itself, two stretches side by side.
+use Prim.Native.Nat.{ℕ, _+_, _-_, _≤_, _<_}
 use native.Mathlib.Omega.{arith}
-use mathlib.Core.Bool.{true, false, _||_}
 use mathlib.Core.List.{List, [], _∷_, _++_, append-assoc}
-use mathlib.Core.Path.{_≡_, refl, ap, sym, _∙_}
-use borrow.Author.Tests.{ne-eqb}
-use lib.ListN.{length, take, drop, set, getD, length-append, length-drop}
-use lib.Seq.{sets, sets-eq, take-all, take-suc, take-append-seam, drop-at, length-take-le}
-use Rattle.rules.specs.Sets.{_∈_}
-use Rattle.laws.proofs.Sets.{mem-append, eqb-same, or-right, or-false}
+use mathlib.Core.Path.{_≡_, ap, sym, _∙_}
+use lib.ListN.{length, take, drop, set, length-append, length-drop}
+use lib.Seq.{sets, sets-eq, take-all, take-append-seam, drop-at, length-take-le}
 use Rattle.record.proofs.Put.{sets-append, set-before}
-
-pub mem-none : (p : ℕ) → p ∈ [] ≡ false
-unfolding _∈_
-mem-none p = refl
-
-module _ (vs : List ℕ) (i p : ℕ) (h : i < length vs) where
-  mem-more : p ∈ take (i + 1) vs ≡ (p ∈ take i vs || p ∈ (getD vs i 0 ∷ []))
-  mem-more = rw (add-one, take-suc vs i 0 h, mem-append)
-
-  pub mem-here : getD vs i 0 ≡ p → p ∈ take (i + 1) vs ≡ true
-  unfolding _∈_
-  mem-here e = mem-more ∙ or-right (p ∈ take i vs) (rw e (ap (λ b. b || false) (eqb-same p)))
-
-  pub mem-past : (getD vs i 0 ≡ p → ⊥) → p ∈ take (i + 1) vs ≡ p ∈ take i vs
-  unfolding _∈_
-  mem-past z = mem-more ∙ ap (λ b. p ∈ take i vs || (b || false)) (ne-eqb p (getD vs i 0) (λ e. z (sym e))) ∙ or-false _
 
 pub length-snoc : {A : Type 0} (xs : List A) (x : A) → length (xs ++ (x ∷ [])) ≡ length xs + 1
 length-snoc xs x = length-append xs (x ∷ [])

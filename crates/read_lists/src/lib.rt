@@ -2,35 +2,19 @@
 ghost use mathlib.Core.Path.{_≡_};
 ghost use mathlib.Core.List.{[]};
 ghost use Prim.Native.Nat.{_+_, _^_, _≤_, _<_};
-ghost use lib.ListN.{length, take};
-ghost use Rattle.rules.specs.Sets.{_∈_};
+ghost use lib.ListN.{length};
 ghost use Rattle.rules.specs.Sheet.{read-policies, read-mappings};
 ghost use Rattle.read_fields.specs.Fields.{BitsOf};
 ghost use Rattle.read_lists.specs.Lists.{list-fault, sides, number-of, Reads};
 use bitfield::read_word;
 use faults::pair_fault;
+use faults::seen;
 use rules::POLICY_REPEATS;
 use rules::POLICY_ZERO;
 use rules::SHEET_ENDS;
 
 // The bits of a policy.
 const POLICY_BITS: usize = 16;
-
-// Whether p is among the first n places of a list.
-fn contains(values: &[u16], n: usize, p: u16) -> bool
-    requires { ⌜ n ≤ length (now values) ⌝ }
-    ensures { λ r. ⌜ r ≡ (p ∈ take n (now (values .entry))) ⌝ }
-{
-    let mut found = false;
-    let mut i = 0;
-    while i < n {
-        if values[i] == p {
-            found = true;
-        }
-        i += 1;
-    }
-    found
-}
 
 // `count` policies from bit position `at` on into the record, from place `place` on: 0, or the first refusal. In a distinct list a
 // repeat is refused.
@@ -59,7 +43,7 @@ pub fn read_policies(
             return POLICY_ZERO;
         }
         if distinct {
-            if contains(&rec[place..], i, p) {
+            if seen(&rec[place..], i, p) {
                 return POLICY_REPEATS;
             }
         }

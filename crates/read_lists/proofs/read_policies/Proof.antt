@@ -55,20 +55,20 @@ returns-2 : tie.Need-returns-2 Inv-loop μ-loop
 returns-2 c = let e = c .before .before in
     policies-refused _ _ _ _ _ _ _ _ _ (e .before .before .loop .inv) (e .before .loop-test .taken) _ (inside e) (c .before .read-word .ensures) _ (fault-zero _ _ _ (c .if2 .taken)) (omega arith)
 
-mul-contains : tie.Need-mul-contains Inv-loop μ-loop
-mul-contains c = omega arith
+mul-seen : tie.Need-mul-seen Inv-loop μ-loop
+mul-seen c = omega arith
 
-sub-contains : tie.Need-sub-contains Inv-loop μ-loop
-sub-contains c = omega (arith, same (turn (c .before)))
+sub-seen : tie.Need-sub-seen Inv-loop μ-loop
+sub-seen c = omega (arith, same (turn (c .before)))
 
-part-contains-start : tie.Need-part-contains-start Inv-loop μ-loop
-part-contains-start c = omega (arith, same (turn (c .before .before)))
+part-seen-start : tie.Need-part-seen-start Inv-loop μ-loop
+part-seen-start c = omega (arith, same (turn (c .before .before)))
 
-part-contains-end : tie.Need-part-contains-end Inv-loop μ-loop
-part-contains-end c = search needs
+part-seen-end : tie.Need-part-seen-end Inv-loop μ-loop
+part-seen-end c = search needs
 
-contains-requires : tie.Need-contains-requires Inv-loop μ-loop
-contains-requires c κs = simp (length-take, length-drop) (omega (arith, same (turn (c .before .before .before))))
+seen-requires : tie.Need-seen-requires Inv-loop μ-loop
+seen-requires c κs = simp (length-take, length-drop) (omega (arith, same (turn (c .before .before .before))))
 
 same-length-3 : tie.Need-same-length-3 Inv-loop μ-loop
 same-length-3 c = same (turn (c .before .before .before .before .before))
@@ -78,7 +78,7 @@ returns-3 c =
     let n = c .before .before .before .before .before in
     let e = n .before .before in
     let l = e .before .before in
-    let seen = policies-seen _ _ _ _ _ _ _ _ _ (l .loop .inv) _ (omega arith) (c .before .contains .ensures) (c .if4 .taken) in
+    let seen = policies-seen _ _ _ _ _ _ _ _ _ (l .loop .inv) _ (omega arith) (c .before .seen .ensures) (c .if4 .taken) in
     policies-refused _ _ _ _ _ _ _ _ _ (l .loop .inv) (e .before .loop-test .taken) _ (inside e) (n .before .read-word .ensures) _
     (fault-repeats _ _ _ (n .if2 .left) (c .before .before .before .before .if3 .taken) seen)
     (omega arith)
@@ -129,11 +129,11 @@ read-policies-spec =
     read-word-requires
     same-length-2
     returns-2
-    mul-contains
-    sub-contains
-    part-contains-start
-    part-contains-end
-    contains-requires
+    mul-seen
+    sub-seen
+    part-seen-start
+    part-seen-end
+    seen-requires
     same-length-3
     returns-3
     add-rec
