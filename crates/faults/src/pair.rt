@@ -31,10 +31,10 @@ fn sought_fault(issuers: &[u16], subjects: &[u16], before: usize, issuer: u16, s
     while i < before {
         let d = issuers[i];
         let s = subjects[i];
-        if d == issuer {
-            if s == subject {
-                fault = PAIR_REPEATS;
-            }
+        let same_issuer = issuer == d;
+        let same_subject = subject == s;
+        if same_issuer & same_subject {
+            fault = PAIR_REPEATS;
         }
         i += 1;
     }
