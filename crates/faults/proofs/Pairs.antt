@@ -8,7 +8,8 @@ use native.Mathlib.Omega.{arith}
 use lib.Dec.{eqb}
 use lib.ListN.{length, take, getD}
 use lib.Seq.{slice, take-suc, length-take-le}
-use Rattle.laws.proofs.Sets.{or-none, or-right, or-false}
+use borrow.Author.Tests.{eq-eqb, ne-eqb}
+use Rattle.laws.proofs.Sets.{and-false, or-none, or-right, or-false}
 use Rattle.rules.specs.Numbers as Numbers
 use Rattle.rules.specs.Paths.{Mapping}
 use Rattle.rules.specs.Sets.{pick, _∈_}
@@ -52,21 +53,33 @@ among-snoc D S [] m = or-false _
 among-snoc D S (x ∷ xs) m = ap (λ b. (eqb D (x .issuer) && eqb S (x .subject)) || b) (among-snoc D S xs m) ∙ sym (or-assoc (eqb D (x .issuer) && eqb S (x .subject)) (pair-among D S xs) (eqb D (m .issuer) && eqb S (m .subject)))
 
 module _ (D S i : ℕ) (ds ss : List ℕ) (k : i < length ds) (l : i < length ss) where
-  among-more : pair-among D S (pairs (take (i + 1) ds) (take (i + 1) ss)) ≡ (pair-among D S (pairs (take i ds) (take i ss)) || (eqb D (getD ds i 0) && eqb S (getD ss i 0)))
-  among-more = ap (pair-among D S) (taken-more i ds ss k l) ∙ among-snoc D S (pairs (take i ds) (take i ss)) _
+  among-more : {a b : Bool} → eqb D (getD ds i 0) ≡ a → eqb S (getD ss i 0) ≡ b → pair-among D S (pairs (take (i + 1) ds) (take (i + 1) ss)) ≡ (pair-among D S (pairs (take i ds) (take i ss)) || (a && b))
+  among-more e f =
+      ap (pair-among D S) (taken-more i ds ss k l)
+      ∙ among-snoc D S (pairs (take i ds) (take i ss)) _
+      ∙ ap₂ (λ a b. pair-among D S (pairs (take i ds) (take i ss)) || (a && b)) e f
 
-  pub among-here : (eqb D (getD ds i 0) && eqb S (getD ss i 0)) ≡ true → pair-among D S (pairs (take (i + 1) ds) (take (i + 1) ss)) ≡ true
-  among-here t = among-more ∙ or-right (pair-among D S (pairs (take i ds) (take i ss))) t
+  pub among-here : getD ds i 0 ≡ D → getD ss i 0 ≡ S → pair-among D S (pairs (take (i + 1) ds) (take (i + 1) ss)) ≡ true
+  among-here e f = among-more (eq-eqb D _ (sym e)) (eq-eqb S _ (sym f)) ∙ or-right (pair-among D S (pairs (take i ds) (take i ss))) refl
 
-  pub among-past : (eqb D (getD ds i 0) && eqb S (getD ss i 0)) ≡ false → pair-among D S (pairs (take (i + 1) ds) (take (i + 1) ss)) ≡ pair-among D S (pairs (take i ds) (take i ss))
-  among-past t = among-more ∙ ap (λ b. pair-among D S (pairs (take i ds) (take i ss)) || b) t ∙ or-false _
+  pub among-other-issuer : (getD ds i 0 ≡ D → ⊥) → pair-among D S (pairs (take (i + 1) ds) (take (i + 1) ss)) ≡ pair-among D S (pairs (take i ds) (take i ss))
+  among-other-issuer z = among-more (ne-eqb D _ (λ e. z (sym e))) refl ∙ or-false _
 
--- no pair is, where its issuer is none of theirs
+  pub among-other-subject : (getD ss i 0 ≡ S → ⊥) → pair-among D S (pairs (take (i + 1) ds) (take (i + 1) ss)) ≡ pair-among D S (pairs (take i ds) (take i ss))
+  among-other-subject z = among-more refl (ne-eqb S _ (λ e. z (sym e))) ∙ ap (λ b. pair-among D S (pairs (take i ds) (take i ss)) || b) (and-false (eqb D (getD ds i 0))) ∙ or-false _
+
+-- no pair is, where its issuer or its subject is none of theirs
 pub among-new : (D S : ℕ) (ds ss : List ℕ) → D ∈ ds ≡ false → pair-among D S (pairs ds ss) ≡ false
 unfolding pairs pair-among _∈_
 among-new D S [] ss e = refl
 among-new D S (d ∷ ds) [] e = refl
 among-new D S (d ∷ ds) (s ∷ ss) e = let r = or-none (eqb D d) e in ap₂ (λ a b. (a && eqb S s) || b) (r .0) (among-new D S ds ss (r .1))
+
+pub among-new-subject : (D S : ℕ) (ds ss : List ℕ) → S ∈ ss ≡ false → pair-among D S (pairs ds ss) ≡ false
+unfolding pairs pair-among _∈_
+among-new-subject D S [] ss e = refl
+among-new-subject D S (d ∷ ds) [] e = refl
+among-new-subject D S (d ∷ ds) (s ∷ ss) e = let r = or-none (eqb S s) e in ap₂ (λ a b. (eqb D d && a) || b) (r .0) (among-new-subject D S ds ss (r .1)) ∙ ap (λ a. a || false) (and-false (eqb D d))
 
 -- the pairs left from place i, after those before it
 

@@ -31,24 +31,26 @@ fn sought_fault(issuers: &[u16], subjects: &[u16], before: usize, issuer: u16, s
     while i < before {
         let d = issuers[i];
         let s = subjects[i];
-        let same_issuer = issuer == d;
-        let same_subject = subject == s;
-        if same_issuer & same_subject {
-            fault = PAIR_REPEATS;
+        if d == issuer {
+            if s == subject {
+                fault = PAIR_REPEATS;
+            }
         }
         i += 1;
     }
     fault
 }
 
-// The same, where most often no pair has this issuer.
+// The same, where most often no pair has this issuer, or none this subject.
 fn repeat_fault(issuers: &[u16], subjects: &[u16], before: usize, issuer: u16, subject: u16) -> u8
     requires { ⌜ before ≤ length (now issuers) ⌝ }
     requires { ⌜ before ≤ length (now subjects) ⌝ }
     ensures { λ r. ⌜ r ≡ pick (pair-among issuer subject (pairs (take before (now (issuers .entry))) (take before (now (subjects .entry))))) Numbers.pair-repeats 0 ⌝ }
 {
     if seen(issuers, before, issuer) {
-        return sought_fault(issuers, subjects, before, issuer, subject);
+        if seen(subjects, before, subject) {
+            return sought_fault(issuers, subjects, before, issuer, subject);
+        }
     }
     0
 }

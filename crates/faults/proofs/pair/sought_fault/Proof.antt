@@ -9,7 +9,7 @@ use Rattle.rules.specs.Numbers as Numbers
 use Rattle.rules.specs.Sets.{pick}
 use Rattle.rules.specs.Layout.{pairs}
 use Rattle.rules.specs.Faults.{pair-among}
-use Rattle.faults.proofs.Pairs.{among-none, among-here, among-past}
+use Rattle.faults.proofs.Pairs.{among-none, among-here, among-other-issuer, among-other-subject}
 use Rattle.faults.proofs.pair.sought_fault.Statement.{statement}
 use Rattle.faults.proofs.pair.sought_fault.Tie as tie
 
@@ -52,7 +52,12 @@ loop-again c =
     let a = l .before .args in
     let h : l .loop .i < length (a .issuers .now) = omega arith in
     let k : l .loop .i < length (a .subjects .now) = omega arith in
-    (omega arith, ⊎-elim (λ w. w .1 ∙ as-test (among-here _ _ _ _ _ h k (w .0 .taken))) (λ w. w .1 ∙ l .loop .inv .1 ∙ as-test (among-past _ _ _ _ _ h k (w .0 .left))) (c .if1 .came))
+    let was = l .loop .inv .1 in (
+      omega arith,
+      ⊎-elim (λ w. w .2 ∙ as-test (among-here _ _ _ _ _ h k (w .0 .taken) (w .1 .taken)))
+          (⊎-elim (λ w. w .2 ∙ was ∙ as-test (among-other-subject _ _ _ _ _ h k (w .1 .left))) (λ w. w .1 ∙ was ∙ as-test (among-other-issuer _ _ _ _ _ h k (w .0 .left))))
+          (c .if1 .came),
+    )
 
 returns : tie.Need-returns Inv-loop μ-loop
 returns c = let all : c .before .loop .i ≡ c .before .before .args .before = omega arith in rw all at (c .before .loop .inv .1)
