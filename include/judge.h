@@ -40,7 +40,9 @@
 uint32_t skandrulo_judge_sheet(const uint8_t *sheet, size_t sheet_len, uint16_t *authority, size_t authority_len,
                                uint16_t *user, size_t user_len, uint16_t *counts, size_t counts_len);
 
-/* Whether the judge refuses with this number: 1 for 1 to 7 and 11, and 0 for any other, a verdict. The number is what a function returned, modulo 256. */
+/* Whether the judge refuses with this number: 1 for 1 to 7 and 11, and 0 for any other. The number is what a function returned, modulo 256; of those that
+ * judge every other is a verdict. It is not for skandrulo_read_extensions, which refuses with each number but 0, some of them its own.
+ */
 uint8_t skandrulo_refuses(uint8_t number);
 
 /* Reads a sheet and writes its path again. Returns the refusal, 1 to 6 or 11, or 256 times the sheet's length.

@@ -123,7 +123,7 @@ pub fn judge_record(
     judge(skandrulo_judge_record, record, authority, user, counts)
 }
 
-/// Whether the judge refuses with this number.
+/// Whether the judge of sheets, records or pieces refuses with this number; reading extensions refuses with each but 0.
 pub fn refuses(number: u8) -> bool {
     // SAFETY: the function takes a number, and no pointer.
     let refuses = unsafe { skandrulo_refuses(number) };
