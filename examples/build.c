@@ -114,10 +114,16 @@ static void print_set(const char *name, const uint16_t *table) {
     printf("\n");
 }
 
+static void print_counters(const uint16_t *counters) {
+    printf("counters explicit %u, mapping %u, any %u\n", (unsigned)counters[SKANDRULO_COUNTER_EXPLICIT],
+           (unsigned)counters[SKANDRULO_COUNTER_MAPPING], (unsigned)counters[SKANDRULO_COUNTER_ANY]);
+}
+
 int main(void) {
     static struct record record;
     static uint8_t sheet[SKANDRULO_SHEET_BYTES];
-    static uint16_t authority[SKANDRULO_TABLE], user[SKANDRULO_TABLE], counts[SKANDRULO_DEPTHS];
+    static uint16_t authority[SKANDRULO_TABLE], user[SKANDRULO_TABLE], counts[SKANDRULO_DEPTHS],
+        counters[SKANDRULO_COUNTERS];
     uint32_t written, answer;
 
     build(&record);
@@ -126,11 +132,12 @@ int main(void) {
     print_sheet(sheet, beside(written));
 
     answer = skandrulo_judge_sheet(sheet, beside(written), authority, SKANDRULO_TABLE, user, SKANDRULO_TABLE, counts,
-                                   SKANDRULO_DEPTHS);
+                                   SKANDRULO_DEPTHS, counters, SKANDRULO_COUNTERS);
     print_verdict("the sheet", answer);
     answer = skandrulo_judge_record(record.places, record.length, authority, SKANDRULO_TABLE, user, SKANDRULO_TABLE, counts,
-                                    SKANDRULO_DEPTHS);
+                                    SKANDRULO_DEPTHS, counters, SKANDRULO_COUNTERS);
     print_verdict("the record", answer);
     print_set("user", user);
+    print_counters(counters);
     return EXIT_SUCCESS;
 }

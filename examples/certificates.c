@@ -376,30 +376,33 @@ static void print_sheet(const uint8_t *sheet, size_t length) {
     printf("\n");
 }
 
-/* Prints the verdict and the user set, which stands first in its table; a 0 ends it. */
-static void print_answer(const uint8_t *reg, const struct identifier *user, uint32_t answer, const uint16_t *table) {
+/* Prints the verdict, the user set, which stands first in its table, where a 0 ends it, and the counters. */
+static void print_answer(const uint8_t *reg, const struct identifier *user, uint32_t answer, const uint16_t *table,
+                         const uint16_t *counters) {
     printf("verdict %u place %u\n", number(answer), beside(answer));
     printf("user");
     for (size_t place = 0; place < SKANDRULO_TABLE && table[place] != 0; place++) {
         printf(" ");
         print_policy(reg, user, table[place]);
     }
-    printf("\n");
+    printf("\ncounters %u %u %u\n", (unsigned)counters[SKANDRULO_COUNTER_EXPLICIT], (unsigned)counters[SKANDRULO_COUNTER_MAPPING],
+           (unsigned)counters[SKANDRULO_COUNTER_ANY]);
 }
 
 /* Writes the sheet of a record's path, judges it, and prints both. */
 static void judge(const struct record *record, const uint8_t *reg, const struct identifier *user) {
     static uint8_t sheet[SKANDRULO_SHEET_BYTES];
-    static uint16_t authority[SKANDRULO_TABLE], table[SKANDRULO_TABLE], counts[SKANDRULO_DEPTHS];
+    static uint16_t authority[SKANDRULO_TABLE], table[SKANDRULO_TABLE], counts[SKANDRULO_DEPTHS],
+        counters[SKANDRULO_COUNTERS];
     uint32_t written, answer;
 
     written = skandrulo_write_record(record->places, record->length, sheet, SKANDRULO_SHEET_BYTES);
     if (number(written) != 0) stop(REFUSED, "the record", "is refused");
     print_sheet(sheet, beside(written));
     answer = skandrulo_judge_sheet(sheet, beside(written), authority, SKANDRULO_TABLE, table, SKANDRULO_TABLE, counts,
-                                   SKANDRULO_DEPTHS);
+                                   SKANDRULO_DEPTHS, counters, SKANDRULO_COUNTERS);
     if (skandrulo_refuses((uint8_t)number(answer))) stop(REFUSED, "the sheet", "is refused");
-    print_answer(reg, user, answer, table);
+    print_answer(reg, user, answer, table, counters);
 }
 
 int main(int argc, char **argv) {

@@ -1,5 +1,5 @@
 #!/usr/bin/env python3
-"""Writes the sheets of document 01's known paths, one that is answered 9, one that is answered 11, those of request Four's limits and the longest sheet with the answers expected, and the sheets of a test program.
+"""Writes the sheets of document 01's known paths, one that is answered 9, one that is answered 11, those of request Four's limits, those that tell the readings of the counters apart and the longest sheet with the answers expected, and the sheets of a test program.
 
     examples/make_sheets.py     writes examples/*.sheet, examples/*.answer, and the data and the lines expected of crates/sheet_check
 
@@ -77,41 +77,51 @@ KNOWN = {
     "pairs-apart": sheet([certificate([5, 8], [(5, 6), (5, 7), (8, 6), (6, 5)]), certificate([6])]),
     "eleven-certificates": sheet([certificate([5])] * 11),
     "seventeen-listed": sheet([straight(17)] * 2, users=range(100, 117)),
+    "counters-8": sheet([certificate([80], skips=(None, 2, None)), certificate(skips=(0, 0, 1)), certificate([80])], explicit=True),
+    "counters-9": sheet([certificate([70], skips=(None, 2, 1)), certificate([70], [(1, 71)], skips=(0, 0, 0)), certificate([70])]),
+    "counters-end": sheet([certificate([22], skips=(0, 0, 0))]),
+    "counters-self-issued": sheet([certificate([22], self_issued=True, skips=(None, None, 2)), certificate([22], self_issued=True)]),
+    "counters-255": sheet([certificate([22], skips=(255, 255, 255))] * 2),
 }
 
 
-# What document 01 says of each, of K document 02's request Three, and of the pairs request Six; the last two are within request Four's limits alone: verdict, place, counts from depth 0, authority set, user set.
+# What document 01 says of each, of K document 02's request Three, and of the pairs request Six; two are within request Four's limits alone, and the last five are of request Seven: verdict, place, counts from depth 0, authority set, user set, and the counters explicit, mapping and any.
 ANSWERS = {
-    "A": (0, 0, [1, 2, 2], [11, 12], [11, 12]),
-    "B": (0, 0, [1, 2, 2, 2], [21, 22], [21, 22]),
-    "B10": (0, 0, [1] + [2] * 10, [21, 22], [21, 22]),
-    "B15": (0, 0, [1] + [2] * 15, [21, 22], [21, 22]),
-    "C": (0, 0, [], [], []),
-    "D": (8, 1, [], [], []),
-    "E": (0, 0, [1, 1], [1], [30, 31]),
-    "F": (0, 0, [], [], []),
-    "G-self-issued": (0, 0, [1, 1, 1], [40], [40]),
-    "G": (0, 0, [], [], []),
-    "H-50": (0, 0, [1, 1, 1], [50], [50]),
-    "H-51": (10, 2, [1, 1, 1], [50], []),
-    "I-50": (10, 2, [1, 1, 1], [51], []),
-    "I-51": (0, 0, [1, 1, 1], [51], [51]),
-    "J": (8, 2, [], [], []),
-    "K": (0, 0, [1, 1], [70], [70]),
-    "K-before-last": (9, 1, [], [], []),
-    "L-0": (10, 1, [], [], []),
-    "L-1": (0, 0, [], [], []),
-    "M": (10, 2, [], [], []),
-    "repeated-pair": (11, 0, [], [], []),
-    "pairs-apart": (0, 0, [1, 2, 1], [5, 8], [5, 8]),
-    "eleven-certificates": (0, 0, [1] + [1] * 11, [5], [5]),
-    "seventeen-listed": (0, 0, [1, 17, 17], list(range(100, 117)), list(range(100, 117))),
+    "A": (0, 0, [1, 2, 2], [11, 12], [11, 12], [1, 2, 2]),
+    "B": (0, 0, [1, 2, 2, 2], [21, 22], [21, 22], [1, 2, 2]),
+    "B10": (0, 0, [1] + [2] * 10, [21, 22], [21, 22], [1, 2, 2]),
+    "B15": (0, 0, [1] + [2] * 15, [21, 22], [21, 22], [1, 2, 2]),
+    "C": (0, 0, [], [], [], [1, 2, 2]),
+    "D": (8, 1, [], [], [], [0, 2, 2]),
+    "E": (0, 0, [1, 1], [1], [30, 31], [1, 2, 2]),
+    "F": (0, 0, [], [], [], [1, 2, 0]),
+    "G-self-issued": (0, 0, [1, 1, 1], [40], [40], [2, 3, 0]),
+    "G": (0, 0, [], [], [], [1, 2, 0]),
+    "H-50": (0, 0, [1, 1, 1], [50], [50], [0, 2, 2]),
+    "H-51": (10, 2, [1, 1, 1], [50], [], [0, 2, 2]),
+    "I-50": (10, 2, [1, 1, 1], [51], [], [0, 0, 2]),
+    "I-51": (0, 0, [1, 1, 1], [51], [51], [0, 0, 2]),
+    "J": (8, 2, [], [], [], [0, 0, 2]),
+    "K": (0, 0, [1, 1], [70], [70], [1, 2, 2]),
+    "K-before-last": (9, 1, [], [], [], [3, 3, 3]),
+    "L-0": (10, 1, [], [], [], [0, 2, 2]),
+    "L-1": (0, 0, [], [], [], [1, 2, 2]),
+    "M": (10, 2, [], [], [], [0, 2, 2]),
+    "repeated-pair": (11, 0, [], [], [], [0, 0, 0]),
+    "pairs-apart": (0, 0, [1, 2, 1], [5, 8], [5, 8], [1, 2, 2]),
+    "eleven-certificates": (0, 0, [1] + [1] * 11, [5], [5], [1, 2, 2]),
+    "seventeen-listed": (0, 0, [1, 17, 17], list(range(100, 117)), list(range(100, 117)), [1, 2, 2]),
+    "counters-8": (8, 2, [], [], [], [0, 2, 3]),
+    "counters-9": (9, 2, [], [], [], [3, 2, 1]),
+    "counters-end": (0, 0, [1, 1], [22], [22], [0, 2, 2]),
+    "counters-self-issued": (0, 0, [1, 1, 1], [22], [22], [2, 3, 2]),
+    "counters-255": (0, 0, [1, 1, 1], [22], [22], [1, 2, 2]),
 }
 
 
-def answer(verdict, place, counts, authority, user):
+def answer(verdict, place, counts, authority, user, counters):
     """The lines that the program writes: of a refusal the first alone."""
-    rows = [["verdict", verdict, "place", place], ["counts"] + counts + [0] * (CERTIFICATES + 1 - len(counts)), ["authority"] + authority, ["user"] + user]
+    rows = [["verdict", verdict, "place", place], ["counts"] + counts + [0] * (CERTIFICATES + 1 - len(counts)), ["authority"] + authority, ["user"] + user, ["counters"] + counters]
     return "".join(" ".join(map(str, row)) + "\n" for row in (rows[:1] if verdict in REFUSALS else rows))
 
 
@@ -207,7 +217,7 @@ def store(crate, sheets):
 def main():
     listed = list(range(100, 100 + LISTED))
     known = KNOWN | {"longest": full()}
-    answers = ANSWERS | {"longest": (0, 0, [1] + [LISTED] * CERTIFICATES, listed, listed)}
+    answers = ANSWERS | {"longest": (0, 0, [1] + [LISTED] * CERTIFICATES, listed, listed, [1, 2, 2])}
     for name, fields in known.items():
         (ROOT / "examples" / f"{name}.sheet").write_bytes(packed(fields))
         (ROOT / "examples" / f"{name}.answer").write_text(answer(*answers[name]))

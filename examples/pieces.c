@@ -11,7 +11,7 @@
 
 int main(void) {
     static uint8_t state[SKANDRULO_STATE], piece[64];
-    static uint16_t authority[SKANDRULO_TABLE], user[SKANDRULO_TABLE], counts[SKANDRULO_DEPTHS];
+    static uint16_t authority[SKANDRULO_TABLE], user[SKANDRULO_TABLE], counts[SKANDRULO_DEPTHS], counters[SKANDRULO_COUNTERS];
     ssize_t length;
     skandrulo_fresh(state, sizeof state);
     while ((length = read(STDIN_FILENO, piece, sizeof piece)) > 0)
@@ -20,7 +20,8 @@ int main(void) {
         perror("pieces");
         return 1;
     }
-    uint32_t answer = skandrulo_finish(state, sizeof state, authority, SKANDRULO_TABLE, user, SKANDRULO_TABLE, counts, SKANDRULO_DEPTHS);
+    uint32_t answer = skandrulo_finish(state, sizeof state, authority, SKANDRULO_TABLE, user, SKANDRULO_TABLE, counts, SKANDRULO_DEPTHS,
+                                       counters, SKANDRULO_COUNTERS);
     printf("verdict %u place %u\n", (unsigned)(answer % 256), (unsigned)(answer / 256));
     return 0;
 }

@@ -15,11 +15,12 @@
 #define SKANDRULO_CERTIFICATES 15
 #define SKANDRULO_LISTED 31
 
-/* The places that a lent table needs, the depth counts, the bytes that the writer's buffer needs, the places of the longest record and
+/* The places that a lent table needs, the depth counts, the counters, the bytes that the writer's buffer needs, the places of the longest record and
  * of the longest certificate in one, and the bytes of a register.
  */
 #define SKANDRULO_TABLE 899
 #define SKANDRULO_DEPTHS 16
+#define SKANDRULO_COUNTERS 3
 #define SKANDRULO_SHEET_BYTES 2929
 #define SKANDRULO_RECORD 1521
 #define SKANDRULO_CERTIFICATE 99
@@ -28,17 +29,27 @@
 /* The bytes of a state that keeps a sheet which arrives in pieces. */
 #define SKANDRULO_STATE 2932
 
+/* The places of the counters explicit_policy, policy_mapping and inhibit_anyPolicy. */
+enum { SKANDRULO_COUNTER_EXPLICIT, SKANDRULO_COUNTER_MAPPING, SKANDRULO_COUNTER_ANY };
+
 /* Judges a sheet. Returns the number of document 01's table plus 256 times the place.
  *
- * 7, where `authority` or `user` has fewer than SKANDRULO_TABLE places or `counts` fewer than SKANDRULO_DEPTHS: nothing is written.
- * 1 to 6 and 11: the sheet is refused; both tables are as they were, and the first SKANDRULO_DEPTHS places of `counts` are 0. 11 is a mapping pair
- * that repeats within one certificate, given when its second subject is read: there 1 comes first, then 4, then 11.
- * 8 and 9: both tables are all zero, and so are the counts. 9 names a certificate before the last: the last one's mappings are ignored.
+ * 7, where `authority` or `user` has fewer than SKANDRULO_TABLE places, `counts` fewer than SKANDRULO_DEPTHS or `counters` fewer than
+ * SKANDRULO_COUNTERS: nothing is written.
+ * 1 to 6 and 11: the sheet is refused; both tables are as they were, and the first SKANDRULO_DEPTHS places of `counts` and the first
+ * SKANDRULO_COUNTERS of `counters` are 0. 11 is a mapping pair that repeats within one certificate, given when its second subject is read: there 1
+ * comes first, then 4, then 11.
+ * 8 and 9: both tables are all zero, and so are the counts; `counters` has the counters as they stood when the certificate named was tested, before its
+ * mappings and its skip values. 9 names a certificate before the last: the last one's mappings are ignored.
  * 0 and 10: each table holds its set first, ascending with no repeats, and zeros to its end; `counts` has the number of
- * policies at each depth. Places of `counts` beyond SKANDRULO_DEPTHS are as they were.
+ * policies at each depth, and `counters` the counters as the end rules left them. A counter is at most n + 1, and at an 8 or a 10 explicit_policy is 0.
+ * Places of `counts` beyond SKANDRULO_DEPTHS, and of `counters` beyond SKANDRULO_COUNTERS, are as they were.
+ *
+ * So the counters are zero after every refusal but 7, which leaves the slice alone: a caller who lends zeros has zeros then too.
  */
 uint32_t skandrulo_judge_sheet(const uint8_t *sheet, size_t sheet_len, uint16_t *authority, size_t authority_len,
-                               uint16_t *user, size_t user_len, uint16_t *counts, size_t counts_len);
+                               uint16_t *user, size_t user_len, uint16_t *counts, size_t counts_len, uint16_t *counters,
+                               size_t counters_len);
 
 /* Whether the judge refuses with this number: 1 for 1 to 7 and 11, and 0 for any other. The number is what a function returned, modulo 256; of those that
  * judge every other is a verdict. It is not for skandrulo_read_extensions, which refuses with each number but 0, some of them its own.
@@ -96,11 +107,12 @@ enum {
     SKANDRULO_CERTIFICATE_HEAD
 };
 
-/* Judges the path of a record. The result and the three slices are those of skandrulo_judge_sheet on the path's sheet; the refusals are
+/* Judges the path of a record. The result and the four slices are those of skandrulo_judge_sheet on the path's sheet; the refusals are
  * 7, and then 3, 4, 5 and 11.
  */
 uint32_t skandrulo_judge_record(const uint16_t *record, size_t record_len, uint16_t *authority, size_t authority_len,
-                                uint16_t *user, size_t user_len, uint16_t *counts, size_t counts_len);
+                                uint16_t *user, size_t user_len, uint16_t *counts, size_t counts_len, uint16_t *counters,
+                                size_t counters_len);
 
 /* Writes the sheet of a record's path. Returns the refusal, or 256 times the sheet's length.
  *
@@ -169,11 +181,11 @@ uint32_t skandrulo_fresh(uint8_t *state, size_t state_len);
  */
 uint32_t skandrulo_feed(uint8_t *state, size_t state_len, const uint8_t *piece, size_t piece_len);
 
-/* Finishes the sheet. The result and the three slices are those of skandrulo_judge_sheet on the bytes kept, and so, where the state was fresh before the
+/* Finishes the sheet. The result and the four slices are those of skandrulo_judge_sheet on the bytes kept, and so, where the state was fresh before the
  * first piece, on the pieces joined together; 7 for a short slice comes first. With no piece that is the empty sheet, 1. Whatever the judge answered, the
  * state is fresh then and serves for the next sheet.
  */
 uint32_t skandrulo_finish(uint8_t *state, size_t state_len, uint16_t *authority, size_t authority_len, uint16_t *user, size_t user_len,
-                          uint16_t *counts, size_t counts_len);
+                          uint16_t *counts, size_t counts_len, uint16_t *counters, size_t counters_len);
 
 #endif

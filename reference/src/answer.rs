@@ -10,6 +10,10 @@ pub const PLACES: usize = 899;
 /// The depth counts, from depth 0 on: "the counts have sixteen places".
 pub const DEPTHS: usize = MAX_CERTIFICATES + 1;
 
+/// The counters: "the three numbers in the order explicit, mapping, any"
+/// (document 02, Seven).
+pub const COUNTERS: usize = 3;
+
 /// The numbers that the judge answers with: 0 to 10 of document 01's table, and
 /// 11 (document 02, Six).
 pub const NUMBERS: usize = 12;
@@ -22,21 +26,29 @@ pub const MAPS_ANY: u8 = 9;
 /// "10: at the end, explicit_policy is 0 and the user set is empty"
 pub const NO_USER_POLICY: u8 = 10;
 
-/// The number and place, the depth counts, and both sets, ascending.
+/// The number and place, the depth counts, "the three counters as they stood when
+/// the verdict was reached" (document 02, Seven), and both sets, ascending.
 #[derive(Clone, Debug, Default, PartialEq, Eq)]
 pub struct Answer {
     pub number: u8,
     pub place: usize,
     pub counts: [u16; DEPTHS],
+    pub counters: [u16; COUNTERS],
     pub authority: Vec<u16>,
     pub user: Vec<u16>,
 }
 
 impl Answer {
-    /// A refusal, place 0; or verdict 8 or 9 at its certificate: all counts
-    /// zero and both sets empty.
+    /// A refusal, place 0: all counts zero and both sets empty, and the counters
+    /// "all zero after any refusal that is not a verdict" (document 02, Seven).
     pub fn bare(number: u8, place: usize) -> Answer {
         Answer { number, place, ..Answer::default() }
+    }
+
+    /// Verdict 8 or 9 at its certificate: all counts zero and both sets empty,
+    /// with the counters "before test 8 or 9 fails" (document 02, Seven).
+    pub fn stopped(number: u8, place: usize, counters: [u16; COUNTERS]) -> Answer {
+        Answer { counters, ..Answer::bare(number, place) }
     }
 
     /// "1 to 7 are refusals, the others verdicts"; 11 "is a refusal like 1 to
@@ -97,7 +109,8 @@ pub fn judge_record(record: &[u16], authority: &mut [u16], user: &mut [u16]) -> 
 mod tests {
     use super::*;
     use crate::known::{self, E_SHEET};
-    use crate::path::MAX_LIST;
+    use crate::path::{Certificate, MAX_LIST};
+    use crate::random::{self, Random};
 
     /// The places of a table that is longer than needed.
     const LONGER: usize = 2 * PLACES;
@@ -148,6 +161,63 @@ mod tests {
             let refused = [1, 2, 3, 4, 5, 6, 7, 11].contains(&number);
             assert_eq!(Answer::bare(number, 0).is_refusal(), refused, "{number}");
         }
+    }
+
+    /// "all zero after any refusal that is not a verdict" (document 02, Seven)
+    #[test]
+    fn the_counters_are_zero_after_every_refusal() {
+        let listed = |policies: &[u16]| {
+            let certificate = Certificate { policies: policies.to_vec(), ..Certificate::default() };
+            Path { certificates: vec![certificate], ..Path::default() }
+        };
+        let (zero, repeated) = (listed(&[5, 0]), listed(&[5, 5]));
+        let mut longer = E_SHEET.to_vec();
+        longer.push(0);
+        for (sheet, places, number) in [
+            (&[][..], PLACES, 1),
+            (&[0x21], PLACES, 2),
+            (&[0x10], PLACES, 3),
+            (&sheet::write(&zero), PLACES, 4),
+            (&sheet::write(&repeated), PLACES, 5),
+            (&longer, PLACES, 6),
+            (&E_SHEET, PLACES - 1, 7),
+            (&known::REPEATED_PAIR_SHEET, PLACES, 11),
+        ] {
+            let answer = judge_sheet(sheet, &mut [9; PLACES], &mut vec![9; places]);
+            assert_eq!((answer.number, answer.counters), (number, [0, 0, 0]));
+        }
+        for (path, number) in [(Path::default(), 3), (zero, 4), (repeated, 5)] {
+            let numbers = record::numbers(&path);
+            let decoded = judge_path(&path, &mut [9; PLACES], &mut [9; PLACES]);
+            assert_eq!((decoded.number, decoded.counters), (number, [0, 0, 0]));
+            let answer = judge_record(&numbers, &mut [9; PLACES], &mut [9; PLACES]);
+            assert_eq!((answer.number, answer.counters), (number, [0, 0, 0]));
+        }
+    }
+
+    /// The arbitrators' question, and the same of an answer that names a
+    /// certificate.
+    #[test]
+    fn an_empty_set_is_accepted_only_where_none_is_required() {
+        let mut random = Random::new(1);
+        let (mut accepted, mut refused) = (0, 0);
+        for _ in 0..5_000 {
+            let path = random::path(&mut random);
+            let answer = judge_path(&path, &mut [9; PLACES], &mut [9; PLACES]);
+            let [explicit, ..] = answer.counters;
+            match answer.number {
+                0 if answer.user.is_empty() => {
+                    accepted += 1;
+                    assert!(explicit > 0, "{path:?}");
+                }
+                NO_GRAPH | NO_USER_POLICY => {
+                    refused += 1;
+                    assert_eq!(explicit, 0, "{path:?}");
+                }
+                _ => {}
+            }
+        }
+        assert!(accepted >= 200 && refused >= 200, "{accepted} {refused}");
     }
 
     #[test]

@@ -2,7 +2,7 @@
 //! and the line that it is expected to write for each. Unlike the records of
 //! `record.rs` these have every place of a path, the unused ones too.
 
-use crate::answer::{judge_path, Answer, DEPTHS, PLACES};
+use crate::answer::{judge_path, Answer, PLACES};
 use crate::path::{Certificate, Path, MAX_CERTIFICATES, MAX_LIST};
 use crate::record::skip_number;
 use crate::sheet::{self, LONGEST};
@@ -83,19 +83,19 @@ fn digest<T: Copy + Into<u64>>(places: &[T]) -> u64 {
     places.iter().fold(0, |digest, &value| (digest * 31 + value.into() + 1) % 65_521)
 }
 
-/// The line expected for a record: what the judge and the writer answer, and
-/// what they leave in the tables and in the buffer.
+/// The line expected for a record: what the judge and the writer answer, the
+/// counters after the counts, and what they leave in the tables and in the buffer.
 pub fn line(path: &Path, lengths: Lengths) -> String {
     let (mut authority, mut user) = ([OLD_PLACE; TABLE_PLACES], [OLD_PLACE; TABLE_PLACES]);
     let mut buffer = [OLD_BYTE; BUFFER_BYTES];
     let (a, u, b) = (lengths.authority, lengths.user, lengths.buffer);
-    let Answer { number, place, counts, .. } =
+    let Answer { number, place, counts, counters, .. } =
         judge_path(path, &mut authority[..a], &mut user[..u]);
     let (written, length) = sheet::write_into(path, &mut buffer[..b]);
-    let counts: [String; DEPTHS] = counts.map(|count| count.to_string());
     format!(
-        "judge {number} {place} {} {} {} write {written} {length} {}\n",
-        counts.join(" "),
+        "judge {number} {place} {} {} {} {} write {written} {length} {}\n",
+        counts.map(|count| count.to_string()).join(" "),
+        counters.map(|counter| counter.to_string()).join(" "),
         digest(&authority),
         digest(&user),
         digest(&buffer)
@@ -166,6 +166,7 @@ pub fn with_faults(faults: &[Fault]) -> Path {
 #[cfg(test)]
 mod tests {
     use super::*;
+    use crate::known::{self, E_SHEET};
 
     fn refused(faults: &[Fault]) -> u8 {
         sheet::refusal(&with_faults(faults)).expect_err("a fault")
@@ -224,6 +225,31 @@ mod tests {
         }
         assert_eq!(refused(&[PairRepeats(1), SubjectZero(0)]), 4);
         assert_eq!(refused(&[PairRepeats(1), PairRepeats(0)]), 11);
+    }
+
+    /// The words of a line before the digests of the tables.
+    fn first_words(path: &Path, lengths: Lengths) -> String {
+        let line = line(path, lengths);
+        let words: Vec<&str> = line.split_whitespace().collect();
+        assert_eq!((words.len(), words[0], words[24]), (28, "judge", "write"));
+        words[1..22].join(" ")
+    }
+
+    #[test]
+    fn the_counters_stand_after_the_counts() {
+        let e = sheet::read(&E_SHEET).unwrap();
+        assert_eq!(first_words(&e, ENOUGH), "0 0 1 1 0 0 0 0 0 0 0 0 0 0 0 0 0 0 1 2 2");
+        let short = Lengths { user: PLACES - 1, ..ENOUGH };
+        assert_eq!(first_words(&e, short), format!("7 0{}", " 0".repeat(19)));
+        let repeated = sheet::refusal(&with_faults(&[Fault::PairRepeats(1)]));
+        assert_eq!(repeated, Err(11));
+        let words = first_words(&with_faults(&[Fault::PairRepeats(1)]), ENOUGH);
+        assert_eq!(words, format!("11 0{}", " 0".repeat(19)));
+        for row in known::rows() {
+            let words = first_words(&row.path, ENOUGH);
+            let [explicit, mapping, any] = row.answer.counters;
+            assert!(words.ends_with(&format!(" {explicit} {mapping} {any}")), "{}", row.name);
+        }
     }
 
     #[test]

@@ -203,11 +203,11 @@ pub fn judge(path: &Path) -> Answer {
         let any_counts = counters.any_counts(certificate, place == n);
         graph = after_policies(graph, certificate, any_counts);
         if counters.explicit_policy == 0 && graph.is_none() {
-            return Answer::bare(NO_GRAPH, place);
+            return Answer::stopped(NO_GRAPH, place, counters.numbers());
         }
         if place < n {
             if certificate.mapping_names_any() {
-                return Answer::bare(MAPS_ANY, place);
+                return Answer::stopped(MAPS_ANY, place, counters.numbers());
             }
             let mapping_allowed = counters.policy_mapping > 0;
             graph =
@@ -224,7 +224,7 @@ pub fn judge(path: &Path) -> Answer {
     let user = user_set(path, &authority);
     let (number, place) =
         if counters.explicit_policy == 0 && user.is_empty() { (NO_USER_POLICY, n) } else { (0, 0) };
-    Answer { number, place, counts, authority, user }
+    Answer { number, place, counts, counters: counters.numbers(), authority, user }
 }
 
 #[cfg(test)]
@@ -262,11 +262,13 @@ mod tests {
     }
 
     /// "Lowering the counters before the mappings are processed": with
-    /// inhibitPolicyMapping 0 in the first certificate its own mapping holds.
+    /// inhibitPolicyMapping 0 in the first certificate its own mapping holds, and
+    /// policy_mapping is 0 after it.
     #[test]
     fn skip_values_work_from_the_next_certificate_on() {
         let mut path = known::rows()[0].path.clone();
         path.certificates[0].inhibit_policy_mapping = Some(0);
-        assert_eq!(judge(&path), known::rows()[0].answer);
+        let expected = Answer { counters: [1, 0, 2], ..known::rows()[0].answer.clone() };
+        assert_eq!(judge(&path), expected);
     }
 }

@@ -12,6 +12,8 @@ extern "C" {
         user_len: usize,
         counts: *mut u16,
         counts_len: usize,
+        counters: *mut u16,
+        counters_len: usize,
     ) -> u32;
 
     fn skandrulo_refuses(number: u8) -> u8;
@@ -32,6 +34,8 @@ extern "C" {
         user_len: usize,
         counts: *mut u16,
         counts_len: usize,
+        counters: *mut u16,
+        counters_len: usize,
     ) -> u32;
 
     fn skandrulo_write_record(
@@ -89,28 +93,41 @@ pub struct Written {
 }
 
 /// A function below that judges: what is judged, then the authority table, the
-/// user table and the counts.
-pub type Judging<I> = fn(&[I], &mut [u16], &mut [u16], &mut [u16]) -> Judged;
+/// user table, the counts and the counters.
+pub type Judging<I> = fn(&[I], &mut [u16], &mut [u16], &mut [u16], &mut [u16]) -> Judged;
 
 /// A function below that reads one slice and writes another.
 pub type Writing<I, O> = fn(&[I], &mut [O]) -> Written;
 
 /// A function of the library that judges.
-type Judge<I> =
-    unsafe extern "C" fn(*const I, usize, *mut u16, usize, *mut u16, usize, *mut u16, usize) -> u32;
+type Judge<I> = unsafe extern "C" fn(
+    *const I,
+    usize,
+    *mut u16,
+    usize,
+    *mut u16,
+    usize,
+    *mut u16,
+    usize,
+    *mut u16,
+    usize,
+) -> u32;
 
 /// A function of the library that reads one slice and writes another.
 type Write<I, O> = unsafe extern "C" fn(*const I, usize, *mut O, usize) -> u32;
 
 /// Judges a sheet. The sets stand in `authority` and `user`, the depth counts
-/// in the first `answer::DEPTHS` places of `counts`.
+/// in the first `answer::DEPTHS` places of `counts`, and the counters explicit_policy,
+/// policy_mapping and inhibit_anyPolicy in the first `answer::COUNTERS` places of
+/// `counters`.
 pub fn judge_sheet(
     sheet: &[u8],
     authority: &mut [u16],
     user: &mut [u16],
     counts: &mut [u16],
+    counters: &mut [u16],
 ) -> Judged {
-    judge(skandrulo_judge_sheet, sheet, authority, user, counts)
+    judge(skandrulo_judge_sheet, sheet, authority, user, counts, counters)
 }
 
 /// Judges the path of a record, in the same way.
@@ -119,8 +136,9 @@ pub fn judge_record(
     authority: &mut [u16],
     user: &mut [u16],
     counts: &mut [u16],
+    counters: &mut [u16],
 ) -> Judged {
-    judge(skandrulo_judge_record, record, authority, user, counts)
+    judge(skandrulo_judge_record, record, authority, user, counts, counters)
 }
 
 /// Whether the judge of sheets, records or pieces refuses with this number; reading extensions refuses with each but 0.
@@ -186,6 +204,7 @@ fn judge<I>(
     authority: &mut [u16],
     user: &mut [u16],
     counts: &mut [u16],
+    counters: &mut [u16],
 ) -> Judged {
     // SAFETY: each pointer is passed with the length of the slice it comes
     // from, the slices do not overlap, and the function keeps none of them.
@@ -199,6 +218,8 @@ fn judge<I>(
             user.len(),
             counts.as_mut_ptr(),
             counts.len(),
+            counters.as_mut_ptr(),
+            counters.len(),
         )
     };
     Judged::of(packed)

@@ -21,6 +21,8 @@ extern "C" {
         user_len: usize,
         counts: *mut u16,
         counts_len: usize,
+        counters: *mut u16,
+        counters_len: usize,
     ) -> u32;
 }
 
@@ -53,8 +55,9 @@ impl Pieces {
         authority: &mut [u16],
         user: &mut [u16],
         counts: &mut [u16],
+        counters: &mut [u16],
     ) -> Judged {
-        finish(&mut self.state, authority, user, counts)
+        finish(&mut self.state, authority, user, counts, counters)
     }
 
     /// The bytes of the state.
@@ -91,6 +94,7 @@ pub fn finish(
     authority: &mut [u16],
     user: &mut [u16],
     counts: &mut [u16],
+    counters: &mut [u16],
 ) -> Judged {
     // SAFETY: as above.
     let packed = unsafe {
@@ -103,6 +107,8 @@ pub fn finish(
             user.len(),
             counts.as_mut_ptr(),
             counts.len(),
+            counters.as_mut_ptr(),
+            counters.len(),
         )
     };
     Judged::of(packed)

@@ -1,8 +1,8 @@
 //! The paths with known outcomes of document 01, those of document 02's request
-//! Three, which has case K anew, and those of its request Six.
+//! Three, which has case K anew, and those of its requests Six and Seven.
 
-use crate::answer::{Answer, DEPTHS};
-use crate::path::{Certificate, Path, ANY, MAX_LIST};
+use crate::answer::{Answer, COUNTERS, DEPTHS};
+use crate::path::{Certificate, Path, ANY, MAX_CERTIFICATES, MAX_LIST};
 
 /// "E's sheet, whole, hex: 11 02 00 1E 00 1F 42 00 02 00."
 pub const E_SHEET: [u8; 10] = [0x11, 0x02, 0x00, 0x1E, 0x00, 0x1F, 0x42, 0x00, 0x02, 0x00];
@@ -12,7 +12,8 @@ pub const E_SHEET: [u8; 10] = [0x11, 0x02, 0x00, 0x1E, 0x00, 0x1F, 0x42, 0x00, 0
 pub const REPEATED_PAIR_SHEET: [u8; 14] =
     [0x11, 0x01, 0x00, 0x01, 0x22, 0x00, 0x05, 0x00, 0x06, 0x00, 0x05, 0x00, 0x06, 0x00];
 
-/// A row's name, its path and the answer written beside it.
+/// A row's name, its path and the answer written beside it. The counters are
+/// worked out by hand.
 pub struct Known {
     pub name: &'static str,
     pub path: Path,
@@ -38,6 +39,23 @@ fn certificate(policies: &[u16], mappings: &[(u16, u16)]) -> Certificate {
     }
 }
 
+/// The certificate with skip values, requireExplicitPolicy, inhibitPolicyMapping
+/// and inhibitAnyPolicy.
+fn skipping(certificate: &Certificate, skips: [Option<u8>; COUNTERS]) -> Certificate {
+    let [require_explicit_policy, inhibit_policy_mapping, inhibit_any_policy] = skips;
+    Certificate {
+        require_explicit_policy,
+        inhibit_policy_mapping,
+        inhibit_any_policy,
+        ..certificate.clone()
+    }
+}
+
+/// The certificate, self-issued.
+fn self_issued(certificate: &Certificate) -> Certificate {
+    Certificate { self_issued: true, ..certificate.clone() }
+}
+
 /// "user any-policy and flags clear unless said"
 fn path(certificates: Vec<Certificate>) -> Path {
     Path { user: vec![ANY], certificates, ..Path::default() }
@@ -45,14 +63,27 @@ fn path(certificates: Vec<Certificate>) -> Path {
 
 /// An answer with the counts that the row lists, zeros after them.
 fn answer(number: u8, place: usize, counts: &[u16], authority: &[u16], user: &[u16]) -> Answer {
-    let mut all = [0; DEPTHS];
-    all[..counts.len()].copy_from_slice(counts);
-    Answer { number, place, counts: all, authority: authority.to_vec(), user: user.to_vec() }
+    let mut answer = Answer::bare(number, place);
+    answer.counts[..counts.len()].copy_from_slice(counts);
+    Answer { authority: authority.to_vec(), user: user.to_vec(), ..answer }
+}
+
+/// A row whose answer has these counters.
+fn row(name: &'static str, path: Path, answer: Answer, counters: [u16; COUNTERS]) -> Known {
+    Known { name, path, answer: Answer { counters, ..answer } }
 }
 
 /// Rows A to M in order, each form of a row on its own; then those of test 9,
-/// made only before the last certificate, and those of pairs that do not repeat.
+/// made only before the last certificate, those of pairs that do not repeat, and
+/// those of the counters.
 pub fn rows() -> Vec<Known> {
+    let mut rows = paper_rows();
+    rows.extend(counter_rows());
+    rows
+}
+
+/// All of them but those of the counters.
+fn paper_rows() -> Vec<Known> {
     let square = [(21, 21), (21, 22), (22, 21), (22, 22)];
     let a = path(vec![
         certificate(&[11, 12, 15], &[(11, 13), (11, 14)]),
@@ -117,36 +148,183 @@ pub fn rows() -> Vec<Known> {
         certificate(&[91], &[(90, 91)]),
     ]);
 
-    let row = |name, path, answer| Known { name, path, answer };
     vec![
-        row("A", a, answer(0, 0, &[1, 2, 2], &[11, 12], &[11, 12])),
-        row("B", b, answer(0, 0, &[1, 2, 2, 2], &[21, 22], &[21, 22])),
-        row("C", c, answer(0, 0, &[], &[], &[])),
-        row("D", d, answer(8, 1, &[], &[], &[])),
-        row("E", e, answer(0, 0, &[1, 1], &[ANY], &[30, 31])),
-        row("F", f, answer(0, 0, &[], &[], &[])),
-        row("G self-issued", g_self, answer(0, 0, &[1, 1, 1], &[40], &[40])),
-        row("G not self-issued", g_other, answer(0, 0, &[], &[], &[])),
-        row("H user 50", h_50, answer(0, 0, &[1, 1, 1], &[50], &[50])),
-        row("H user 51", h_51, answer(10, 2, &[1, 1, 1], &[50], &[])),
-        row("I user 50", i_50, answer(10, 2, &[1, 1, 1], &[51], &[])),
-        row("I user 51", i_51, answer(0, 0, &[1, 1, 1], &[51], &[51])),
-        row("J", j, answer(8, 2, &[], &[], &[])),
-        row("K", k, answer(0, 0, &[1, 1], &[70], &[70])),
-        row("L requireExplicitPolicy 0", l_0, answer(10, 1, &[], &[], &[])),
-        row("L requireExplicitPolicy 1", l_1, answer(0, 0, &[], &[], &[])),
-        row("M", m, answer(10, 2, &[], &[], &[])),
-        row("9 of the first alone", first_maps, answer(9, 1, &[], &[], &[])),
-        row("9 of the first, to anyPolicy", first_to, answer(9, 1, &[], &[], &[])),
-        row("9 where the last maps anyPolicy too", both_map, answer(9, 1, &[], &[], &[])),
-        row("9 of the last but one of three", second_maps, answer(9, 2, &[], &[], &[])),
-        row("the last maps anyPolicy", last_maps, answer(0, 0, &[1, 1, 1], &[ANY], &[ANY])),
-        row("the last maps to anyPolicy", last_to, answer(0, 0, &[1, 1, 1], &[ANY], &[ANY])),
-        row("the only one maps to anyPolicy", only_to, answer(0, 0, &[1, 1], &[70], &[70])),
-        row("pairs of one issuer", one_issuer, answer(0, 0, &[1, 1, 2], &[90], &[90])),
-        row("pairs of one subject", one_subject, answer(0, 0, &[1, 2, 1], &[90, 92], &[90, 92])),
-        row("a pair and its exchange", exchanged, answer(0, 0, &[1, 1, 1], &[91], &[91])),
-        row("a pair in each of three", in_three, answer(0, 0, &[1, 1, 1, 1], &[90], &[90])),
+        row("A", a, answer(0, 0, &[1, 2, 2], &[11, 12], &[11, 12]), [1, 2, 2]),
+        row("B", b, answer(0, 0, &[1, 2, 2, 2], &[21, 22], &[21, 22]), [1, 2, 2]),
+        row("C", c, answer(0, 0, &[], &[], &[]), [1, 2, 2]),
+        row("D", d, answer(8, 1, &[], &[], &[]), [0, 2, 2]),
+        row("E", e, answer(0, 0, &[1, 1], &[ANY], &[30, 31]), [1, 2, 2]),
+        row("F", f, answer(0, 0, &[], &[], &[]), [1, 2, 0]),
+        row("G self-issued", g_self, answer(0, 0, &[1, 1, 1], &[40], &[40]), [2, 3, 0]),
+        row("G not self-issued", g_other, answer(0, 0, &[], &[], &[]), [1, 2, 0]),
+        row("H user 50", h_50, answer(0, 0, &[1, 1, 1], &[50], &[50]), [0, 2, 2]),
+        row("H user 51", h_51, answer(10, 2, &[1, 1, 1], &[50], &[]), [0, 2, 2]),
+        row("I user 50", i_50, answer(10, 2, &[1, 1, 1], &[51], &[]), [0, 0, 2]),
+        row("I user 51", i_51, answer(0, 0, &[1, 1, 1], &[51], &[51]), [0, 0, 2]),
+        row("J", j, answer(8, 2, &[], &[], &[]), [0, 0, 2]),
+        row("K", k, answer(0, 0, &[1, 1], &[70], &[70]), [1, 2, 2]),
+        row("L requireExplicitPolicy 0", l_0, answer(10, 1, &[], &[], &[]), [0, 2, 2]),
+        row("L requireExplicitPolicy 1", l_1, answer(0, 0, &[], &[], &[]), [1, 2, 2]),
+        row("M", m, answer(10, 2, &[], &[], &[]), [0, 2, 2]),
+        row("9 of the first alone", first_maps, answer(9, 1, &[], &[], &[]), [3, 3, 3]),
+        row("9 of the first, to anyPolicy", first_to, answer(9, 1, &[], &[], &[]), [3, 3, 3]),
+        row(
+            "9 where the last maps anyPolicy too",
+            both_map,
+            answer(9, 1, &[], &[], &[]),
+            [3, 3, 3],
+        ),
+        row("9 of the last but one of three", second_maps, answer(9, 2, &[], &[], &[]), [3, 3, 3]),
+        row(
+            "the last maps anyPolicy",
+            last_maps,
+            answer(0, 0, &[1, 1, 1], &[ANY], &[ANY]),
+            [1, 0, 2],
+        ),
+        row(
+            "the last maps to anyPolicy",
+            last_to,
+            answer(0, 0, &[1, 1, 1], &[ANY], &[ANY]),
+            [1, 2, 2],
+        ),
+        row(
+            "the only one maps to anyPolicy",
+            only_to,
+            answer(0, 0, &[1, 1], &[70], &[70]),
+            [1, 2, 2],
+        ),
+        row("pairs of one issuer", one_issuer, answer(0, 0, &[1, 1, 2], &[90], &[90]), [1, 2, 2]),
+        row(
+            "pairs of one subject",
+            one_subject,
+            answer(0, 0, &[1, 2, 1], &[90, 92], &[90, 92]),
+            [1, 2, 2],
+        ),
+        row(
+            "a pair and its exchange",
+            exchanged,
+            answer(0, 0, &[1, 1, 1], &[91], &[91]),
+            [1, 2, 2],
+        ),
+        row(
+            "a pair in each of three",
+            in_three,
+            answer(0, 0, &[1, 1, 1, 1], &[90], &[90]),
+            [1, 2, 2],
+        ),
+    ]
+}
+
+/// The rows of request Seven: "before test 8 or 9 fails, or after the end rules for
+/// 0 and 10". Beside each stands how the counters come about, explicit, mapping and
+/// any: at the start, after each certificate before the one that decides, and after
+/// the end rules where it gets so far.
+fn counter_rows() -> Vec<Known> {
+    let (sealed, none) = (certificate(&[90], &[]), certificate(&[], &[]));
+    let (maps, maps_to) = (certificate(&[90], &[(ANY, 71)]), certificate(&[90], &[(71, ANY)]));
+    let zeros = [Some(0); COUNTERS];
+    let explicit = |path| Path { explicit_policy: true, ..path };
+    let mapping = |path| Path { mapping_inhibit: true, ..path };
+    let any = |path| Path { any_policy_inhibit: true, ..path };
+    let user = |list: &[u16], path| Path { user: list.to_vec(), ..path };
+    let stands = |n: usize| answer(0, 0, &[1; DEPTHS][..=n], &[90], &[90]);
+    let empty = |number, place, n: usize| answer(number, place, &[1; DEPTHS][..=n], &[90], &[]);
+    let stops = |number, place| answer(number, place, &[], &[], &[]);
+
+    // 0 4 4, 0 2 3. The second's own fall would give 0 1 2, its skip values 0 0 0.
+    let eight = explicit(path(vec![
+        skipping(&sealed, [None, Some(2), None]),
+        skipping(&none, [None, Some(0), Some(0)]),
+        sealed.clone(),
+    ]));
+    // 0 3 0
+    let eight_above_0 =
+        any(explicit(path(vec![skipping(&none, [Some(3), None, None]), sealed.clone()])));
+    // 3 3 3, 0 2 1
+    let eight_at_the_last =
+        path(vec![skipping(&sealed, [Some(0), None, Some(1)]), skipping(&none, zeros)]);
+    // 4 4 4, 1 3 2, 0 2 1
+    let eight_after_a_fall =
+        path(vec![skipping(&sealed, [Some(1), None, Some(2)]), sealed.clone(), none]);
+    // 5 5 5, 3 2 4. The second's own fall would give 2 1 3, its skip values 0 0 0.
+    let nine = path(vec![
+        skipping(&sealed, [Some(3), Some(2), None]),
+        skipping(&maps, zeros),
+        sealed.clone(),
+        sealed.clone(),
+    ]);
+    // 3 0 3
+    let nine_self_issued = mapping(path(vec![
+        skipping(&self_issued(&maps_to), [None, None, Some(1)]),
+        sealed.clone(),
+    ]));
+    // 3 3 3, 2 2 2, and at the end 1 2 2 and 0 2 2
+    let last_requires_0 = path(vec![sealed.clone(), skipping(&sealed, zeros)]);
+    // 4 4 4, 4 4 4, 4 4 4, and at the end 3 4 4
+    let last_requires_1 = path(vec![
+        self_issued(&sealed),
+        self_issued(&sealed),
+        skipping(&sealed, [Some(1); COUNTERS]),
+    ]);
+    // 3 3 3, 2 2 2, and at the end 1 2 2
+    let last_self_issued = path(vec![sealed.clone(), self_issued(&sealed)]);
+    // 3 3 3, 3 3 3, and at the end 2 3 3
+    let all_self_issued = path(vec![self_issued(&sealed); 2]);
+    // 4 4 4, 2 1 3, 2 1 3, and at the end 1 1 3
+    let self_issued_skips = path(vec![
+        skipping(&self_issued(&sealed), [Some(2), Some(1), Some(3)]),
+        self_issued(&sealed),
+        sealed.clone(),
+    ]);
+    // 3 3 3, 2 2 2, and at the end 1 2 2
+    let greatest = path(vec![skipping(&sealed, [Some(255); COUNTERS]); 2]);
+    // 3 3 3, 3 2 3, and at the end 2 2 3
+    let around =
+        path(vec![skipping(&self_issued(&sealed), [Some(3), Some(2), Some(4)]), sealed.clone()]);
+    // 4 4 4, 3 0 1, 2 0 0, and at the end 1 0 0
+    let later_greater = path(vec![
+        skipping(&sealed, [None, Some(0), Some(1)]),
+        skipping(&sealed, [None, Some(2), Some(2)]),
+        sealed.clone(),
+    ]);
+    // 5 5 5, 2 1 0, 1 0 0, 0 0 0, and at the end 0 0 0
+    let all_at_0 = path(vec![
+        skipping(&sealed, [Some(2), Some(1), Some(0)]),
+        sealed.clone(),
+        sealed.clone(),
+        sealed.clone(),
+    ]);
+    // 3 0 3, 1 0 2, and at the end 0 0 2
+    let ten_by_the_fall =
+        user(&[99], mapping(path(vec![skipping(&sealed, [Some(1), None, None]), sealed.clone()])));
+    // 2 2 0, and at the end 1 2 0 and 0 2 0
+    let ten_by_the_last = user(&[99], any(path(vec![skipping(&sealed, [Some(0), None, None])])));
+    // 3 3 3, 2 1 2, and at the end 1 1 2
+    let accepted_empty =
+        user(&[], path(vec![skipping(&sealed, [Some(2), Some(1), None]), sealed.clone()]));
+    // 16 16 16 to the last, and at the end 15 16 16
+    let most = path(vec![self_issued(&sealed); MAX_CERTIFICATES]);
+
+    vec![
+        row("8, own skip values", eight, stops(8, 2), [0, 2, 3]),
+        row("8, own requireExplicitPolicy above 0", eight_above_0, stops(8, 1), [0, 3, 0]),
+        row("8 at the last, own skip values", eight_at_the_last, stops(8, 2), [0, 2, 1]),
+        row("8 after a fall to 0", eight_after_a_fall, stops(8, 3), [0, 2, 1]),
+        row("9, own skip values", nine, stops(9, 2), [3, 2, 4]),
+        row("9 of a self-issued one", nine_self_issued, stops(9, 1), [3, 0, 3]),
+        row("0, the last has skip values 0", last_requires_0, stands(2), [0, 2, 2]),
+        row("0, the last has skip values 1", last_requires_1, stands(3), [3, 4, 4]),
+        row("0, the last is self-issued", last_self_issued, stands(2), [1, 2, 2]),
+        row("0, all are self-issued", all_self_issued, stands(2), [2, 3, 3]),
+        row("0, self-issued with skip values", self_issued_skips, stands(3), [1, 1, 3]),
+        row("0, skip values of 255", greatest, stands(2), [1, 2, 2]),
+        row("0, skip values around the counters", around, stands(2), [2, 2, 3]),
+        row("0, a later skip value is greater", later_greater, stands(3), [1, 0, 0]),
+        row("0, all counters at 0", all_at_0, stands(4), [0, 0, 0]),
+        row("10 by the fall at the end", ten_by_the_fall, empty(10, 2, 2), [0, 0, 2]),
+        row("10 by requireExplicitPolicy 0", ten_by_the_last, empty(10, 1, 1), [0, 2, 0]),
+        row("0, an empty user set", accepted_empty, empty(0, 0, 2), [1, 1, 2]),
+        row("0, the greatest counters", most, stands(MAX_CERTIFICATES), [15, 16, 16]),
     ]
 }
 

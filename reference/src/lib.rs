@@ -29,6 +29,7 @@ pub mod random_extensions;
 pub mod random_pieces;
 pub mod random_record;
 pub mod record;
+pub mod recount;
 pub mod register;
 pub mod repeats;
 pub mod sheet;

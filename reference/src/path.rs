@@ -62,11 +62,12 @@ pub fn pairs(issuers: &[u16], subjects: &[u16]) -> Vec<(u16, u16)> {
 mod tests {
     use crate::{answer, extensions, record, sheet};
 
-    /// The figures that follow from the limits, as request Four and
-    /// include/judge.h write them.
+    /// The figures that follow from the limits, and the number of counters, as
+    /// request Four and include/judge.h write them.
     #[test]
     fn figures_of_the_limits() {
         assert_eq!((answer::PLACES, answer::DEPTHS, sheet::LONGEST), (899, 16, 2_929));
+        assert_eq!(answer::COUNTERS, 3);
         assert_eq!((record::LONGEST, extensions::PLACES), (1_521, 99));
     }
 }

@@ -283,11 +283,11 @@ fn judge_within(path: &Path, cap: usize) -> Result<Answer, OverCap> {
         // the graph, and then test 9", which "RFC 5280 makes [...] only for
         // certificates before the last".
         if counters.explicit_policy == 0 && tree.is_none() {
-            return Ok(Answer::bare(NO_GRAPH, place));
+            return Ok(Answer::stopped(NO_GRAPH, place, counters.numbers()));
         }
         if place < n {
             if certificate.mapping_names_any() {
-                return Ok(Answer::bare(MAPS_ANY, place));
+                return Ok(Answer::stopped(MAPS_ANY, place, counters.numbers()));
             }
             take_mappings(&mut tree, place, certificate, counters.policy_mapping > 0)?;
             counters.next(certificate);
@@ -295,7 +295,7 @@ fn judge_within(path: &Path, cap: usize) -> Result<Answer, OverCap> {
             counters.end(certificate);
         }
     }
-    let mut answer = Answer::bare(0, 0);
+    let mut answer = Answer { counters: counters.numbers(), ..Answer::default() };
     if let Some(tree) = &mut tree {
         // "The counts and, by the authority rule above, the authority set are
         // read off it."

@@ -289,9 +289,9 @@ unfolding pick
 within-pick true x y ks h i = h
 within-pick false x y ks h i = i
 
-within-failed : (v i : ℕ) (ks : List ℕ) → Within ((failed v i) .counts) ks
+within-failed : (v i : ℕ) (k : Counters) (ks : List ℕ) → Within ((failed v i k) .counts) ks
 unfolding failed
-within-failed v i ks = tt
+within-failed v i k ks = tt
 
 cost-least : (c : Certificate) → length (c .policies) ≤ cost c
 unfolding cost
@@ -308,8 +308,8 @@ run-within p d i c [] q g ks b k u e v s =
     let h = Graph.add-policies true q c g in
     let w = add-small true q c ks b k g v s in
     subst (λ a. Within (a .counts) (ks ++ (b ∷ (k + cost c) ∷ []))) (sym (graph-run p i c [] q g))
-    (within-pick (Graph.test-8 q h) _ _ _ (within-failed Numbers.no-graph i _)
-    (within-pick (Graph.test-9 true c) _ _ _ (within-failed Numbers.any-mapped i _)
+    (within-pick (Graph.test-8 q h) _ _ _ (within-failed Numbers.no-graph i q _)
+    (within-pick (Graph.test-9 true c) _ _ _ (within-failed Numbers.any-mapped i q _)
     (subst (Within ((Graph.conclude p (at-end c q) h) .counts)) (append-assoc ks (b ∷ []) ((k + cost c) ∷ []))
     (conclude-within p (at-end c q) h (ks ++ (b ∷ [])) (k + cost c) [] (small-more _ (k + length (c .policies)) (k + cost c) h (omega (arith, cost-least c)) w)))))
 run-within p d i c (x ∷ cs) q g ks b k u e v s =
@@ -317,8 +317,8 @@ run-within p d i c (x ∷ cs) q g ks b k u e v s =
     let w = add-small false q c ks b k g v s in
     let a = added false q c d g (u c here) e v in
     subst (λ a. Within (a .counts) (ks ++ (b ∷ (k + cost c) ∷ caps (k + cost c) (x ∷ cs)))) (sym (graph-run p i c (x ∷ cs) q g))
-    (within-pick (Graph.test-8 q h) _ _ _ (within-failed Numbers.no-graph i _)
-    (by-cases (Graph.test-9 false c) (λ m. rw m (within-failed Numbers.any-mapped i _)) (λ m. rw m
+    (within-pick (Graph.test-8 q h) _ _ _ (within-failed Numbers.no-graph i q _)
+    (by-cases (Graph.test-9 false c) (λ m. rw m (within-failed Numbers.any-mapped i q _)) (λ m. rw m
     (let r = map-all q c d h (a .len) (test-9-passed c m) (a .inv) in
     subst (Within ((Graph.run p (suc i) (x ∷ cs) (after c q) (Graph.apply-mappings q c h)) .counts)) (append-assoc ks (b ∷ []) ((k + cost c) ∷ caps (k + cost c) (x ∷ cs)))
     (run-within p (suc d) (suc i) x cs (after c q) (Graph.apply-mappings q c h) (ks ++ (b ∷ [])) (k + cost c) (k + cost c) (λ y j. u y (there j)) (r .1) (r .2) (all-small q c d (ks ++ (b ∷ [])) k h (a .len) (test-9-passed c m) (a .inv) w))))))

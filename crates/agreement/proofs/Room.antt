@@ -175,9 +175,9 @@ unfolding pick
 room-pick true x y n h i = h
 room-pick false x y n h i = i
 
-room-failed : (v i n : ℕ) → length ((failed v i) .authority) ≤ n
+room-failed : (v i : ℕ) (k : Counters) (n : ℕ) → length ((failed v i k) .authority) ≤ n
 unfolding failed
-room-failed v i n = omega arith
+room-failed v i k n = omega arith
 
 conclude-room : (p : Path) (k : Counters) (g : Graph.Graph) (n : ℕ) → length (Graph.authority-of g) ≤ n → length ((Graph.conclude p k g) .authority) ≤ n
 conclude-room p k g n h = subst (λ a. length (a .authority) ≤ n) (sym (graph-conclude p k g)) h
@@ -187,8 +187,8 @@ unfolding authority-room pick empty
 run-room p d i c [] k g rs u e v r =
     let h = Graph.add-policies true k c g in
     subst (λ a. length (a .authority) ≤ length rs + length (c .policies)) (sym (graph-run p i c [] k g))
-    (room-pick (Graph.test-8 k h) _ _ _ (room-failed Numbers.no-graph i _)
-    (room-pick (Graph.test-9 true c) _ _ _ (room-failed Numbers.any-mapped i _)
+    (room-pick (Graph.test-8 k h) _ _ _ (room-failed Numbers.no-graph i k _)
+    (room-pick (Graph.test-9 true c) _ _ _ (room-failed Numbers.any-mapped i k _)
     (conclude-room p (at-end c k) h _
     (omega (arith, authority-housed (rs ++ c .policies) h (add-roomy true k c rs g v r) (λ a. subset-right rs (c .policies) any (added-any true k c g v a)), length-append rs (c .policies))))))
 run-room p d i c (x ∷ cs) k g rs u e v r =
@@ -196,8 +196,8 @@ run-room p d i c (x ∷ cs) k g rs u e v r =
     let a = added false k c d g (u c here) e v in
     let ss = (rs ++ c .policies) ++ issuers c in
     subst (λ a. length (a .authority) ≤ length rs + authority-room (c ∷ x ∷ cs)) (sym (graph-run p i c (x ∷ cs) k g))
-    (room-pick (Graph.test-8 k h) _ _ _ (room-failed Numbers.no-graph i _)
-    (by-cases (Graph.test-9 false c) (λ m. rw m (room-failed Numbers.any-mapped i _)) (λ m. rw m
+    (room-pick (Graph.test-8 k h) _ _ _ (room-failed Numbers.no-graph i k _)
+    (by-cases (Graph.test-9 false c) (λ m. rw m (room-failed Numbers.any-mapped i k _)) (λ m. rw m
     (let w = map-all k c d h (a .len) (test-9-passed c m) (a .inv) in
     omega (arith, run-room p (suc d) (suc i) x cs (after c k) (Graph.apply-mappings k c h) ss (λ y j. u y (there j)) (w .1) (w .2) (all-roomy k c d (rs ++ c .policies) h (a .len) (test-9-passed c m) (a .inv) (add-roomy false k c rs g v r)), length-append (rs ++ c .policies) (issuers c), length-append rs (c .policies))))))
 

@@ -85,14 +85,14 @@ graph-user : (users A : List ℕ) → Graph.user-of users A ≡ pick (any ∈ us
 unfolding Graph.user-of
 graph-user users A = refl
 
-abbrev pub answer : Bool → ℕ → List ℕ → List ℕ → List ℕ → Answer
-answer fails n counts A U = record { verdict = pick fails Numbers.user-empty Numbers.valid; place = pick fails n 0; counts = counts; authority = A; user = U }
+abbrev pub answer : Bool → ℕ → List ℕ → List ℕ → List ℕ → Counters → Answer
+answer fails n counts A U k = record { verdict = pick fails Numbers.user-empty Numbers.valid; place = pick fails n 0; counts = counts; authority = A; user = U; counters = k }
 
-pub graph-conclude : (p : Path) (k : Counters) (g : Graph.Graph) → Graph.conclude p k g ≡ answer (eqb (k .explicit) 0 && empty (Graph.user-of (p .user-list) (Graph.authority-of g))) (length (p .certificates)) (map (λ (l : Level). length l) (Graph.levels g)) (Graph.authority-of g) (Graph.user-of (p .user-list) (Graph.authority-of g))
+pub graph-conclude : (p : Path) (k : Counters) (g : Graph.Graph) → Graph.conclude p k g ≡ answer (eqb (k .explicit) 0 && empty (Graph.user-of (p .user-list) (Graph.authority-of g))) (length (p .certificates)) (map (λ (l : Level). length l) (Graph.levels g)) (Graph.authority-of g) (Graph.user-of (p .user-list) (Graph.authority-of g)) k
 unfolding Graph.conclude
 graph-conclude p k g = refl
 
-tree-conclude : (p : Path) (k : Counters) (d : ℕ) (t : Forest) → Tree.conclude p k d t ≡ answer (eqb (k .explicit) 0 && Tree.gone (pick (any ∈ p .user-list) t (Tree.intersected (p .user-list) d t))) (suc d) (Tree.counts-to (suc d) 0 t) (Tree.authority-of (suc d) t) (pick (any ∈ p .user-list) (Tree.authority-of (suc d) t) (ascending (Tree.under-any false (pick (any ∈ p .user-list) t (Tree.intersected (p .user-list) d t)))))
+tree-conclude : (p : Path) (k : Counters) (d : ℕ) (t : Forest) → Tree.conclude p k d t ≡ answer (eqb (k .explicit) 0 && Tree.gone (pick (any ∈ p .user-list) t (Tree.intersected (p .user-list) d t))) (suc d) (Tree.counts-to (suc d) 0 t) (Tree.authority-of (suc d) t) (pick (any ∈ p .user-list) (Tree.authority-of (suc d) t) (ascending (Tree.under-any false (pick (any ∈ p .user-list) t (Tree.intersected (p .user-list) d t))))) k
 unfolding Tree.conclude
 tree-conclude p k d t = refl
 
@@ -153,8 +153,8 @@ conclude-same : (p : Path) (k : Counters) (d : ℕ) (L : Level) (ls : List Level
 unfolding Graph.levels
 conclude-same p k d L ls B v len full n =
     graph-conclude p k g
-    ∙ ap (λ A. answer (eqb (k .explicit) 0 && empty (Graph.user-of (p .user-list) A)) (length (p .certificates)) (map (λ (l : Level). length l) (Graph.levels g)) A (Graph.user-of (p .user-list) A)) (authority-same d L ls B v len)
-    ∙ (λ i. answer (eqb (k .explicit) 0 && gone-left (p .user-list) d t r i) (n i) (counts i) (Tree.authority-of (suc d) t) (user-same (p .user-list) d t r i))
+    ∙ ap (λ A. answer (eqb (k .explicit) 0 && empty (Graph.user-of (p .user-list) A)) (length (p .certificates)) (map (λ (l : Level). length l) (Graph.levels g)) A (Graph.user-of (p .user-list) A) k) (authority-same d L ls B v len)
+    ∙ (λ i. answer (eqb (k .explicit) 0 && gone-left (p .user-list) d t r i) (n i) (counts i) (Tree.authority-of (suc d) t) (user-same (p .user-list) d t r i) k)
     ∙ sym (tree-conclude p k d t)
   where
     g : Graph.Graph
@@ -171,11 +171,11 @@ conclude-same p k d L ls B v len full n =
 
 -- the run
 
-pub graph-run : (p : Path) (i : ℕ) (c : Certificate) (cs : List Certificate) (k : Counters) (g : Graph.Graph) → Graph.run p i (c ∷ cs) k g ≡ pick (Graph.test-8 k (Graph.add-policies (empty cs) k c g)) (failed Numbers.no-graph i) (pick (Graph.test-9 (empty cs) c) (failed Numbers.any-mapped i) (pick (empty cs) (Graph.conclude p (at-end c k) (Graph.add-policies (empty cs) k c g)) (Graph.run p (suc i) cs (after c k) (Graph.apply-mappings k c (Graph.add-policies (empty cs) k c g)))))
+pub graph-run : (p : Path) (i : ℕ) (c : Certificate) (cs : List Certificate) (k : Counters) (g : Graph.Graph) → Graph.run p i (c ∷ cs) k g ≡ pick (Graph.test-8 k (Graph.add-policies (empty cs) k c g)) (failed Numbers.no-graph i k) (pick (Graph.test-9 (empty cs) c) (failed Numbers.any-mapped i k) (pick (empty cs) (Graph.conclude p (at-end c k) (Graph.add-policies (empty cs) k c g)) (Graph.run p (suc i) cs (after c k) (Graph.apply-mappings k c (Graph.add-policies (empty cs) k c g)))))
 unfolding Graph.run
 graph-run p i c cs k g = refl
 
-tree-run : (p : Path) (d : ℕ) (c : Certificate) (cs : List Certificate) (k : Counters) (t : Forest) → Tree.run p d (c ∷ cs) k t ≡ pick (Tree.test-8 k (Tree.add-policies (empty cs) k d c t)) (failed Numbers.no-graph (suc d)) (pick (Tree.test-9 (empty cs) c) (failed Numbers.any-mapped (suc d)) (pick (empty cs) (Tree.conclude p (at-end c k) d (Tree.add-policies (empty cs) k d c t)) (Tree.run p (suc d) cs (after c k) (Tree.apply-mappings k d c (Tree.add-policies (empty cs) k d c t)))))
+tree-run : (p : Path) (d : ℕ) (c : Certificate) (cs : List Certificate) (k : Counters) (t : Forest) → Tree.run p d (c ∷ cs) k t ≡ pick (Tree.test-8 k (Tree.add-policies (empty cs) k d c t)) (failed Numbers.no-graph (suc d) k) (pick (Tree.test-9 (empty cs) c) (failed Numbers.any-mapped (suc d) k) (pick (empty cs) (Tree.conclude p (at-end c k) d (Tree.add-policies (empty cs) k d c t)) (Tree.run p (suc d) cs (after c k) (Tree.apply-mappings k d c (Tree.add-policies (empty cs) k d c t)))))
 unfolding Tree.run
 tree-run p d c cs k t = refl
 
@@ -225,9 +225,9 @@ run-step : (p : Path) (d : ℕ) (c : Certificate) (cs : List Certificate) (k : C
 unfolding pick
 run-step p d c cs k g h x y z =
     graph-run p (suc d) c cs k g
-    ∙ ap (λ s. pick (Graph.test-8 k s) (failed Numbers.no-graph (suc d)) (pick (Graph.test-9 (empty cs) c) (failed Numbers.any-mapped (suc d)) (pick (empty cs) (Graph.conclude p (at-end c k) s) (Graph.run p (suc (suc d)) cs (after c k) (Graph.apply-mappings k c s))))) x
-    ∙ ap₂ (λ b r. pick b (failed Numbers.no-graph (suc d)) r) (test-8-same k h) (by-cases (Graph.test-9 (empty cs) c) (λ m. rw m) (λ m. rw m (z m)))
-    ∙ ap₂ (λ s b. pick (Tree.test-8 k s) (failed Numbers.no-graph (suc d)) (pick b (failed Numbers.any-mapped (suc d)) (pick (empty cs) (Tree.conclude p (at-end c k) d s) (Tree.run p (suc d) cs (after c k) (Tree.apply-mappings k d c s))))) (sym y) (test-9-same (empty cs) c)
+    ∙ ap (λ s. pick (Graph.test-8 k s) (failed Numbers.no-graph (suc d) k) (pick (Graph.test-9 (empty cs) c) (failed Numbers.any-mapped (suc d) k) (pick (empty cs) (Graph.conclude p (at-end c k) s) (Graph.run p (suc (suc d)) cs (after c k) (Graph.apply-mappings k c s))))) x
+    ∙ ap₂ (λ b r. pick b (failed Numbers.no-graph (suc d) k) r) (test-8-same k h) (by-cases (Graph.test-9 (empty cs) c) (λ m. rw m) (λ m. rw m (z m)))
+    ∙ ap₂ (λ s b. pick (Tree.test-8 k s) (failed Numbers.no-graph (suc d) k) (pick b (failed Numbers.any-mapped (suc d) k) (pick (empty cs) (Tree.conclude p (at-end c k) d s) (Tree.run p (suc d) cs (after c k) (Tree.apply-mappings k d c s))))) (sym y) (test-9-same (empty cs) c)
     ∙ sym (tree-run p d c cs k (whole g))
 
 run-same : (p : Path) (d : ℕ) (c : Certificate) (cs : List Certificate) (k : Counters) (g : Graph.Graph) → ((x : Certificate) → In x (c ∷ cs) → Unique (x .policies)) → length (g .above) ≡ d → Inv g → length (p .certificates) ≡ d + length (c ∷ cs) → Graph.run p (suc d) (c ∷ cs) k g ≡ Tree.run p d (c ∷ cs) k (whole g)
@@ -284,7 +284,7 @@ start-same : whole Graph.start ≡ Tree.start
 unfolding Graph.start Tree.start Graph.levels top
 start-same = refl
 
--- the graph's judge and the tree's say the same: verdict, place, counts, authority set and user set
+-- the graph's judge and the tree's say the same: verdict, place, counts, authority set, user set and counters
 pub judged-same : (p : Path) → WellFormed p → Graph.judged p ≡ Tree.judged p
 judged-same p w =
     graph-judged p

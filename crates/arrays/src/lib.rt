@@ -53,13 +53,19 @@ fn judge_rows(
 {
     let reached = walk(rec, starts, names, one, store);
     if reached.fault != 0 {
-        return failed(reached.fault, reached.place, authority, user);
+        return failed(
+            reached.fault,
+            reached.place,
+            reached.counters,
+            authority,
+            user,
+        );
     }
     concluded(
         rec,
         starts,
         names,
-        reached.explicit,
+        reached.counters,
         store,
         one,
         marks,

@@ -2,16 +2,18 @@
 ghost use mathlib.Core.Bool.{false};
 ghost use mathlib.Core.Path.{_≡_};
 ghost use Prim.Native.Nat.{_<_};
+ghost use lib.Dec.{eqb};
 ghost use lib.ListN.{length};
+ghost use Rattle.rules.specs.Sets.{pick};
 ghost use Rattle.rules.specs.Counters as rule;
-ghost use Rattle.counters.specs.Counted.{counted};
+ghost use Rattle.rules.specs.Layout.{counted};
 ghost use Rattle.record.specs.Record.{issued, subjected, packed-certificate};
 ghost use Rattle.record.specs.Puts.{Stands};
 ghost use Rattle.places.specs.Numbered.{certificate-at, HeldAt};
 ghost use Rattle.rows.specs.Row.{map-row, expect};
 ghost use Rattle.certificate.specs.Entered.{allowed, entered, mapping-fault, fault-of};
-use counters::Counters;
 use counters::after;
+use counters::at_end;
 use policies::expect;
 use policies::map_row;
 use policies::new_row;
@@ -27,10 +29,11 @@ use record::subjects_at;
 use rows::lists;
 use rows::size;
 use rules::ANY_MAPPED;
+use rules::Counters;
 use rules::NO_GRAPH;
 
 // "anyPolicy is listed and (inhibit_anyPolicy > 0, or i < n and the certificate is self-issued)"; last where i is n
-fn any_allowed(last: bool, any: usize, self_issued: bool, policies: &[u16]) -> bool
+fn any_allowed(last: bool, any: u16, self_issued: bool, policies: &[u16]) -> bool
     ensures { λ r. ⌜ r ≡ allowed last any «self_issued» (now (policies .entry)) ⌝ }
 {
     let listed = lists(policies, 0);
@@ -61,7 +64,7 @@ fn mapping_fault(last: bool, issuers: &[u16], subjects: &[u16]) -> u8
 }
 
 // Test 8, then test 9, of a certificate whose row is `row`.
-fn fault(last: bool, explicit: usize, row: &[u8], issuers: &[u16], subjects: &[u16]) -> u8
+fn fault(last: bool, explicit: u16, row: &[u8], issuers: &[u16], subjects: &[u16]) -> u8
     requires { ⌜ length (now row) < 65536 ⌝ }
     ensures { λ r. ⌜ r ≡ fault-of last explicit (now (row .entry)) (now (issuers .entry)) (now (subjects .entry)) ⌝ }
 {
@@ -106,7 +109,7 @@ pub fn enter(
 }
 
 // The mappings of the certificate at place `at`, which is not the last: its row, and what its nodes then expect.
-fn leave(rec: &[u16], at: usize, mapping: usize, expected: &mut [u8], row: &mut [u8])
+fn leave(rec: &[u16], at: usize, mapping: u16, expected: &mut [u8], row: &mut [u8])
     requires { ⌜ HeldAt (now rec) (length (now row)) at ⌝ }
     requires { ⌜ length (now expected) ≡ length (now row) ⌝ }
     requires { ⌜ 0 < length (now row) ⌝ }
@@ -130,6 +133,17 @@ pub fn lower(rec: &[u16], at: usize, k: Counters) -> Counters
         number_at(rec, at, INHIBIT_ANY),
         k,
     )
+}
+
+// The counters when the verdict is reached at certificate n, at place `at`: as they stood where a test of it failed, else as the end rules leave them.
+pub fn settle(rec: &[u16], at: usize, fault: u8, k: Counters) -> Counters
+    requires { ⌜ Stands (now rec) at (packed-certificate (certificate-at (now rec) at)) ⌝ }
+    ensures { λ r. ⌜ counted r ≡ pick (eqb fault 0) (rule.at-end (certificate-at (now (rec .entry)) at) (counted k)) (counted k) ⌝ }
+{
+    if fault == 0 {
+        return at_end(number_at(rec, at, REQUIRE_EXPLICIT), k);
+    }
+    k
 }
 
 // The policies and the mappings of the certificate at place `at`, which is not the last; its fault, or 0.

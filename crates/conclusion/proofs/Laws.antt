@@ -10,9 +10,10 @@ use lib.ListN.{length, take, drop, replicate, length-take}
 use lib.Seq.{take-append-seam}
 use borrow.Author.Tests.{ne-eqb}
 use Rattle.rules.specs.declared.Answer.{Answer as StoredAnswer}
+use Rattle.rules.specs.declared.Counters.{Counters as StoredCounters}
 use Rattle.rules.specs.Limits as Limits
 use Rattle.rules.specs.Numbers as Numbers
-use Rattle.rules.specs.Layout.{placed}
+use Rattle.rules.specs.Layout.{placed, counted}
 use Rattle.rules.specs.Sets.{pick, empty}
 use Rattle.rules.specs.Answers.{failed}
 use Rattle.rules.specs.Judge.{outcome, verdict}
@@ -29,25 +30,26 @@ use Rattle.conclusion.specs.Ending.{ended}
 
 -- a failed verdict
 
-pub failure : (v j : ℕ) {r : StoredAnswer} (A U : List ℕ) {A' U' : List ℕ} → r ≡ record { number = v; place = j; counts = replicate Limits.depths 0 } → A' ≡ replicate (length A) 0 → U' ≡ replicate (length U) 0 → outcome r A' U' ≡ verdict (failed v j) A U
+pub failure : (v j : ℕ) (k : StoredCounters) {r : StoredAnswer} (A U : List ℕ) {A' U' : List ℕ} → r ≡ record { number = v; place = j; counts = replicate Limits.depths 0; counters = k } → A' ≡ replicate (length A) 0 → U' ≡ replicate (length U) 0 → outcome r A' U' ≡ verdict (failed v j (counted k)) A U
 unfolding outcome verdict failed placed
-failure v j A U e a u = λ i. record {
+failure v j k A U e a u = λ i. record {
   number = e i .number;
   place = e i .place;
   counts = e i .counts;
   authority = (a ∙ ap (λ n. replicate n 0) (sym (sub-zero (length A)))) i;
   user = (u ∙ ap (λ n. replicate n 0) (sym (sub-zero (length U)))) i;
+  counters = counted (e i .counters);
 }
 
 -- the ending
 
-pub ended-yes : {b : Bool} (n : ℕ) (counts : List ℕ) → b ≡ true → ended b n counts ≡ record { number = Numbers.user-empty; place = n; counts = counts }
+pub ended-yes : {b : Bool} (n : ℕ) (counts : List ℕ) (k : StoredCounters) → b ≡ true → ended b n counts k ≡ record { number = Numbers.user-empty; place = n; counts = counts; counters = k }
 unfolding ended pick
-ended-yes n counts e = ap (λ b. ended b n counts) e
+ended-yes n counts k e = ap (λ b. ended b n counts k) e
 
-pub ended-no : {b : Bool} (n : ℕ) (counts : List ℕ) → b ≡ false → ended b n counts ≡ record { number = Numbers.valid; place = 0; counts = counts }
+pub ended-no : {b : Bool} (n : ℕ) (counts : List ℕ) (k : StoredCounters) → b ≡ false → ended b n counts k ≡ record { number = Numbers.valid; place = 0; counts = counts; counters = k }
 unfolding ended pick
-ended-no n counts e = ap (λ b. ended b n counts) e
+ended-no n counts k e = ap (λ b. ended b n counts k) e
 
 -- a set in the first places of a table
 
@@ -57,7 +59,7 @@ take-placed m xs = take-append-seam xs (replicate (m - length xs) 0)
 
 -- the conclusion after certificate n
 
-module _ (rec names store : List ℕ) (explicit : ℕ) where
+module _ (rec names store : List ℕ) (k : StoredCounters) where
   abbrev pub found : List ℕ
   found = authority-left rec names store
 
@@ -68,14 +70,14 @@ module _ (rec names store : List ℕ) (explicit : ℕ) where
   chosen = user-of (map (at names) (unpacked rec .user-list)) found
 
   abbrev pub fails : Bool
-  fails = eqb explicit 0 && eqb (length chosen) 0
+  fails = eqb (k .explicit) 0 && eqb (length chosen) 0
 
-  concluded-is : concluded-of rec names store explicit
-      ≡ record { verdict = pick (eqb explicit 0 && empty chosen) Numbers.user-empty Numbers.valid; place = pick (eqb explicit 0 && empty chosen) (length (path-named names rec .certificates)) 0; counts = tally; authority = found; user = chosen }
+  concluded-is : concluded-of rec names store (counted k)
+      ≡ record { verdict = pick (eqb (k .explicit) 0 && empty chosen) Numbers.user-empty Numbers.valid; place = pick (eqb (k .explicit) 0 && empty chosen) (length (path-named names rec .certificates)) 0; counts = tally; authority = found; user = chosen; counters = counted k }
   unfolding concluded-of conclude above authority-left path-named path-map
   concluded-is = refl
 
-  pub concluded-authority : concluded-of rec names store explicit .authority ≡ found
+  pub concluded-authority : concluded-of rec names store (counted k) .authority ≡ found
   concluded-authority = ap (λ a. a .authority) concluded-is
 
   empty-length : (xs : List ℕ) → eqb (length xs) 0 ≡ empty xs
@@ -84,11 +86,11 @@ module _ (rec names store : List ℕ) (explicit : ℕ) where
   empty-length (x ∷ xs) = ne-eqb (suc (length xs)) 0 (λ e. omega arith)
 
   pub conclusion : {r : StoredAnswer} (A U : List ℕ) {A' U' : List ℕ}
-      → r ≡ ended fails (at rec 0) (placed Limits.depths tally) → A' ≡ placed (length A) found → U' ≡ placed (length U) chosen → outcome r A' U' ≡ verdict (concluded-of rec names store explicit) A U
+      → r ≡ ended fails (at rec 0) (placed Limits.depths tally) k → A' ≡ placed (length A) found → U' ≡ placed (length U) chosen → outcome r A' U' ≡ verdict (concluded-of rec names store (counted k)) A U
   unfolding outcome verdict ended
   conclusion A U e a u =
-      (λ i. record { number = e i .number; place = e i .place; counts = e i .counts; authority = a i; user = u i })
-      ∙ ap₂ (λ b n. record { number = pick (eqb explicit 0 && b) Numbers.user-empty Numbers.valid; place = pick (eqb explicit 0 && b) n 0; counts = placed Limits.depths tally; authority = placed (length A) found; user = placed (length U) chosen }) (empty-length chosen) (sym (certificates-many names rec))
+      (λ i. record { number = e i .number; place = e i .place; counts = e i .counts; authority = a i; user = u i; counters = counted (e i .counters) })
+      ∙ ap₂ (λ b n. record { number = pick (eqb (k .explicit) 0 && b) Numbers.user-empty Numbers.valid; place = pick (eqb (k .explicit) 0 && b) n 0; counts = placed Limits.depths tally; authority = placed (length A) found; user = placed (length U) chosen; counters = counted k }) (empty-length chosen) (sym (certificates-many names rec))
       ∙ ap (λ x. verdict x A U) (sym concluded-is)
 
 -- the user list fits a table

@@ -4,6 +4,7 @@ use mathlib.Core.List.{List}
 use mathlib.Core.Path.{_≡_}
 use lib.ListN.{length}
 use Rattle.rules.specs.Limits as Limits
+use Rattle.rules.specs.Counters.{Counters}
 use Rattle.names.specs.Places.{at}
 use Rattle.places.specs.Numbered.{Numbered}
 use Rattle.rows.specs.Read.{Small}
@@ -15,10 +16,10 @@ pub record NewRow (u : ℕ) (row : List ℕ) : Type 0 where
   pub wide : length row ≡ u
   pub clear : Clear row
 
--- a record of places after the walk, with the row of each certificate in the store
-pub record Concluding (rec starts names store : List ℕ) (explicit : ℕ) : Type 0 where
+-- a record of places after the walk, with the row of each certificate in the store, and the counters at the end
+pub record Concluding (rec starts names store : List ℕ) (k : Counters) : Type 0 where
   pub numbered : Numbered rec starts names
   pub few : length names < 65536
   pub room : at rec 0 * length names ≤ length store
   pub small : Small store
-  pub fits : length (concluded-of rec names store explicit .authority) ≤ Limits.table
+  pub fits : length (concluded-of rec names store k .authority) ≤ Limits.table

@@ -6,7 +6,7 @@ ghost use Prim.Native.Nat.{_≤_};
 ghost use lib.Dec.{eqb};
 ghost use lib.ListN.{length};
 ghost use Rattle.rules.specs.Limits as Limits;
-ghost use Rattle.rules.specs.Layout.{placed};
+ghost use Rattle.rules.specs.Layout.{placed, counted};
 ghost use Rattle.rules.specs.Answers as rule;
 ghost use Rattle.rules.specs.Judge.{outcome, verdict};
 ghost use Rattle.levels.proofs.Levels as Levels;
@@ -21,6 +21,7 @@ use record::count_at;
 use rows::ANY;
 use rows::INHERITED;
 use rules::Answer;
+use rules::Counters;
 use rules::DEPTHS;
 use rules::TABLE;
 use rules::USER_EMPTY;
@@ -98,8 +99,14 @@ fn fill_sets(
 }
 
 // After 8 and 9: both tables are all zero.
-pub fn failed(number: u8, place: u8, authority: &mut [u16], user: &mut [u16]) -> Answer
-    ensures { λ r. ⌜ outcome r (now (authority .exit)) (now (user .exit)) ≡ verdict (rule.failed number place) (now (authority .entry)) (now (user .entry)) ⌝ }
+pub fn failed(
+    number: u8,
+    place: u8,
+    counters: Counters,
+    authority: &mut [u16],
+    user: &mut [u16],
+) -> Answer
+    ensures { λ r. ⌜ outcome r (now (authority .exit)) (now (user .exit)) ≡ verdict (rule.failed number place (counted counters)) (now (authority .entry)) (now (user .entry)) ⌝ }
 {
     clear(authority);
     clear(user);
@@ -107,20 +114,22 @@ pub fn failed(number: u8, place: u8, authority: &mut [u16], user: &mut [u16]) ->
         number,
         place,
         counts: [0u16; DEPTHS],
+        counters,
     }
 }
 
-// Verdict 10 at certificate n, or 0: `users` is the size of the user set.
-fn ending(explicit: usize, users: usize, n: usize, counts: [u16; DEPTHS]) -> Answer
+// Verdict 10 at certificate n, or 0: `users` is the size of the user set, and the counters are those at the end.
+fn ending(counters: Counters, users: usize, n: usize, counts: [u16; DEPTHS]) -> Answer
     requires { ⌜ n ≤ Limits.certificates ⌝ }
-    ensures { λ r. ⌜ r ≡ ended (eqb explicit 0 && eqb users 0) n counts ⌝ }
+    ensures { λ r. ⌜ r ≡ ended (eqb (counters .explicit) 0 && eqb users 0) n counts counters ⌝ }
 {
-    if explicit == 0 {
+    if counters.explicit == 0 {
         if users == 0 {
             return Answer {
                 number: USER_EMPTY,
                 place: n as u8,
                 counts,
+                counters,
             };
         }
     }
@@ -128,6 +137,7 @@ fn ending(explicit: usize, users: usize, n: usize, counts: [u16; DEPTHS]) -> Ans
         number: VALID,
         place: 0,
         counts,
+        counters,
     }
 }
 
@@ -136,7 +146,7 @@ pub fn concluded(
     rec: &[u16],
     starts: &[u16],
     names: &[u16],
-    explicit: usize,
+    counters: Counters,
     store: &mut [u8],
     one: &mut [u8],
     marks: &mut [u8],
@@ -144,16 +154,16 @@ pub fn concluded(
     authority: &mut [u16],
     user: &mut [u16],
 ) -> Answer
-    requires { ⌜ Concluding (now rec) (now starts) (now names) (now store) explicit ⌝ }
+    requires { ⌜ Concluding (now rec) (now starts) (now names) (now store) (counted counters) ⌝ }
     requires { ⌜ length (now one) ≡ length (now names) ⌝ }
     requires { ⌜ NewRow (length (now names)) (now marks) ⌝ }
     requires { ⌜ NewRow (length (now names)) (now spare) ⌝ }
     requires { ⌜ Limits.table ≤ length (now authority) ⌝ }
     requires { ⌜ Limits.table ≤ length (now user) ⌝ }
-    ensures { λ r. ⌜ outcome r (now (authority .exit)) (now (user .exit)) ≡ verdict (concluded-of (now (rec .entry)) (now (names .entry)) (now (store .entry)) explicit) (now (authority .entry)) (now (user .entry)) ⌝ }
+    ensures { λ r. ⌜ outcome r (now (authority .exit)) (now (user .exit)) ≡ verdict (concluded-of (now (rec .entry)) (now (names .entry)) (now (store .entry)) (counted counters)) (now (authority .entry)) (now (user .entry)) ⌝ }
 {
     let mut counts = [0u16; DEPTHS];
     prune(rec, starts, names, one, store, marks, &mut counts);
     let users = fill_sets(record::users(rec), names, marks, spare, authority, user);
-    ending(explicit, users, count_at(rec, 0, N), counts)
+    ending(counters, users, count_at(rec, 0, N), counts)
 }

@@ -1,13 +1,9 @@
--- The three counters in the code's own type, and as the rules read them; the rules by the parts of a path and of a certificate.
-use Prim.Native.Nat.{ℕ, suc}
+-- The rules of the counters, by the parts of a path and of a certificate.
+use Prim.Native.Nat.{ℕ, suc, pred}
 use mathlib.Core.Bool.{Bool}
-use Rattle.counters.specs.declared.Counters.{Counters as StoredCounters}
 use Rattle.rules.specs.declared.Skip.{Skip}
 use Rattle.rules.specs.Sets.{pick}
-use Rattle.rules.specs.Counters.{Counters, fallen, lowered}
-
-abbrev pub counted : StoredCounters → Counters
-counted k = record { explicit = k .explicit; mapping = k .mapping; any = k .any }
+use Rattle.rules.specs.Counters.{Counters, fallen, lowered, zeroed}
 
 -- at the start, of a path with these flags and n certificates
 abbrev pub started : Bool → Bool → Bool → ℕ → Counters
@@ -21,3 +17,7 @@ passed self-issued explicit mapping any k =
       mapping = lowered mapping (fallen self-issued (k .mapping));
       any = lowered any (fallen self-issued (k .any));
     }
+
+-- at the end, where certificate n has this requireExplicitPolicy
+abbrev pub ended : Skip → Counters → Counters
+ended explicit k = record { explicit = zeroed explicit (pred (k .explicit)); mapping = k .mapping; any = k .any }

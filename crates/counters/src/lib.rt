@@ -1,20 +1,18 @@
 // The counters of RFC 5280 6.1.2 (d) to (f): explicit_policy, policy_mapping and inhibit_anyPolicy.
+ghost use mathlib.Core.List.{_∷_};
 ghost use mathlib.Core.Path.{_≡_};
 ghost use Prim.Native.Nat.{suc, pred, _≤_};
+ghost use lib.ListN.{length, drop};
 ghost use Rattle.rules.specs.Limits as Limits;
 ghost use Rattle.rules.specs.Sets.{pick};
+ghost use Rattle.rules.specs.Layout.{counted};
 ghost use Rattle.rules.specs.Counters as rule;
 ghost use Rattle.record.specs.Unpacked.{skip-of};
-ghost use Rattle.counters.specs.Counted.{counted, started, passed};
-
-pub struct Counters {
-    pub explicit: usize,
-    pub mapping: usize,
-    pub any: usize,
-}
+ghost use Rattle.counters.specs.Counted.{started, passed, ended};
+use rules::Counters;
 
 // "0 if its flag is set, else n+1"
-fn unless(flag: bool, n: usize) -> usize
+fn unless(flag: bool, n: u16) -> u16
     requires { ⌜ n ≤ Limits.certificates ⌝ }
     ensures { λ r. ⌜ r ≡ pick flag 0 (suc n) ⌝ }
 {
@@ -22,7 +20,7 @@ fn unless(flag: bool, n: usize) -> usize
 }
 
 // Where each counter starts, by its flag.
-pub fn start(explicit_policy: bool, mapping_inhibit: bool, any_inhibit: bool, n: usize) -> Counters
+pub fn start(explicit_policy: bool, mapping_inhibit: bool, any_inhibit: bool, n: u16) -> Counters
     requires { ⌜ n ≤ Limits.certificates ⌝ }
     ensures { λ r. ⌜ counted r ≡ started «explicit_policy» «mapping_inhibit» «any_inhibit» n ⌝ }
 {
@@ -34,27 +32,27 @@ pub fn start(explicit_policy: bool, mapping_inhibit: bool, any_inhibit: bool, n:
 }
 
 // The counter less 1, if above 0.
-fn less_one(k: usize) -> usize
+fn less_one(k: u16) -> u16
     ensures { λ r. ⌜ r ≡ pred k ⌝ }
 {
     if k == 0 { 0 } else { k - 1 }
 }
 
 // "unless self-issued, each counter above 0 falls by 1"
-fn fallen(self_issued: bool, k: usize) -> usize
+fn fallen(self_issued: bool, k: u16) -> u16
     ensures { λ r. ⌜ r ≡ rule.fallen «self_issued» k ⌝ }
 {
     if self_issued { k } else { less_one(k) }
 }
 
 // "each present skip value below its counter replaces it"; the skip value as a record has it, 0 absent, else the value and 1
-fn lowered(skip: u16, k: usize) -> usize
+fn lowered(skip: u16, k: u16) -> u16
     ensures { λ r. ⌜ r ≡ rule.lowered (skip-of skip) k ⌝ }
 {
     if skip == 0 {
         return k;
     }
-    let m = (skip - 1) as usize;
+    let m = skip - 1;
     if m < k { m } else { k }
 }
 
@@ -70,7 +68,7 @@ pub fn after(self_issued: bool, explicit: u16, mapping: u16, any: u16, k: Counte
 }
 
 // explicit_policy at the end: it "falls by 1 if above 0", and "if certificate n has requireExplicitPolicy 0, it becomes 0".
-pub fn explicit_at_end(require_explicit: u16, explicit: usize) -> usize
+fn explicit_at_end(require_explicit: u16, explicit: u16) -> u16
     ensures { λ r. ⌜ r ≡ rule.zeroed (skip-of «require_explicit») (pred explicit) ⌝ }
 {
     if require_explicit == 1 {
@@ -78,4 +76,25 @@ pub fn explicit_at_end(require_explicit: u16, explicit: usize) -> usize
     } else {
         less_one(explicit)
     }
+}
+
+// At the end, by the requireExplicitPolicy of certificate n: the other counters stand.
+pub fn at_end(require_explicit: u16, k: Counters) -> Counters
+    ensures { λ r. ⌜ counted r ≡ ended (skip-of «require_explicit») (counted k) ⌝ }
+{
+    Counters {
+        explicit: explicit_at_end(require_explicit, k.explicit),
+        mapping: k.mapping,
+        any: k.any,
+    }
+}
+
+// Puts the counters into a lent slice, in the order explicit, mapping, any.
+pub fn put(k: Counters, lent: &mut [u16])
+    requires { ⌜ Limits.counters ≤ length (now lent) ⌝ }
+    ensures { λ r. ⌜ now (lent .exit) ≡ k .explicit ∷ k .mapping ∷ k .any ∷ drop Limits.counters (now (lent .entry)) ⌝ }
+{
+    lent[0] = k.explicit;
+    lent[1] = k.mapping;
+    lent[2] = k.any;
 }

@@ -212,12 +212,12 @@ run-verdict : (p : Path) (i : ℕ) (c : Certificate) (cs : List Certificate) (k 
 unfolding Graph.run failed pick empty
 run-verdict p i c [] k g =
     let h = Graph.add-policies true k c g in
-    one-of (Graph.test-8 k h) (failed Numbers.no-graph i) _ is-no-graph
-    (one-of (Graph.test-9 true c) (failed Numbers.any-mapped i) (Graph.conclude p (at-end c k) h) is-any-mapped (conclude-verdict p (at-end c k) h))
+    one-of (Graph.test-8 k h) (failed Numbers.no-graph i k) _ is-no-graph
+    (one-of (Graph.test-9 true c) (failed Numbers.any-mapped i k) (Graph.conclude p (at-end c k) h) is-any-mapped (conclude-verdict p (at-end c k) h))
 run-verdict p i c (d ∷ ds) k g =
     let h = Graph.add-policies false k c g in
-    one-of (Graph.test-8 k h) (failed Numbers.no-graph i) _ is-no-graph
-    (one-of (Graph.test-9 false c) (failed Numbers.any-mapped i) (Graph.run p (suc i) (d ∷ ds) (after c k) (Graph.apply-mappings k c h)) is-any-mapped (run-verdict p (suc i) d ds (after c k) (Graph.apply-mappings k c h)))
+    one-of (Graph.test-8 k h) (failed Numbers.no-graph i k) _ is-no-graph
+    (one-of (Graph.test-9 false c) (failed Numbers.any-mapped i k) (Graph.run p (suc i) (d ∷ ds) (after c k) (Graph.apply-mappings k c h)) is-any-mapped (run-verdict p (suc i) d ds (after c k) (Graph.apply-mappings k c h)))
 
 pub judged-verdict : (p : Path) → empty (p .certificates) ≡ false → Verdict ((Graph.judged p) .verdict)
 unfolding Graph.judged empty

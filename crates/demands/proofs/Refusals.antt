@@ -1,4 +1,4 @@
--- What `refuses` says of a number, it says of the outcome: with a number that refuses both tables are unchanged, the place is 0 and every count is 0; with
+-- What `refuses` says of a number, it says of the outcome: with a number that refuses both tables are unchanged, the place, every count and every counter is 0; with
 -- another the outcome is a verdict.
 use Prim.Native.Nat.{ℕ, zero, suc}
 use mathlib.Core.Bool.{true, false}

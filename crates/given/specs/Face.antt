@@ -27,13 +27,13 @@ unfoldable pub record-judged : (Path → Answer) → List ℕ → List ℕ → L
 unfolding unless-short after-faults
 record-judged judged r A U = unless-short A U (after-faults judged r A U)
 
--- the same for C: 7 first, where a table or the counts are too short, and then nothing is written
-unfoldable pub record-exported : List ℕ → List ℕ → List ℕ → List ℕ → Judged
+-- the same for C: 7 first, where a table, the counts or the counters are too short, and then nothing is written
+unfoldable pub record-exported : List ℕ → List ℕ → List ℕ → List ℕ → List ℕ → Judged
 unfolding pick exported after-faults
-record-exported r A U C =
-    pick (ltb (length A) Limits.table || ltb (length U) Limits.table || ltb (length C) Limits.depths)
-    (record { result = Numbers.table-short; authority = A; user = U; counts = C })
-    (exported (after-faults Graph.judged r A U) C)
+record-exported r A U C K =
+    pick (ltb (length A) Limits.table || ltb (length U) Limits.table || ltb (length C) Limits.depths || ltb (length K) Limits.counters)
+    (record { result = Numbers.table-short; authority = A; user = U; counts = C; counters = K })
+    (exported (after-faults Graph.judged r A U) C K)
 
 -- the sheet of a record: 7 first, where the buffer is too short
 unfoldable pub record-written : List ℕ → List ℕ → Written

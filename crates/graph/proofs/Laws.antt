@@ -4,23 +4,16 @@ use mathlib.Core.Bool.{_||_}
 use mathlib.Core.List.{List}
 use mathlib.Core.Path.{_≡_, refl, ap, ap₂, _∙_}
 use lib.Dec.{ltb}
-use lib.ListN.{length, replicate}
+use lib.ListN.{length}
 use borrow.Author.Tests.{lt-ltb, le-ltb}
 use Rattle.rules.specs.declared.Path.{Path as StoredPath}
-use Rattle.rules.specs.declared.Answer.{Answer as StoredAnswer}
 use Rattle.rules.specs.Limits as Limits
 use Rattle.rules.specs.Numbers as Numbers
 use Rattle.rules.specs.Layout.{path-of}
 use Rattle.rules.specs.Faults.{path-fault}
 use Rattle.rules.specs.Answers.{Answer}
-use Rattle.rules.specs.Judge.{outcome, verdict, refusal, unless-short, unless-fault, path-judged}
+use Rattle.rules.specs.Judge.{verdict, refusal, unless-short, unless-fault, path-judged}
 use Rattle.laws.proofs.Sets.{or-left, or-right, pick-yes, pick-no}
-
--- a refusal
-
-pub refused-is : {r : StoredAnswer} (k : ℕ) (A U : List ℕ) → r ≡ record { number = k; place = 0; counts = replicate Limits.depths 0 } → outcome r A U ≡ refusal k A U
-unfolding outcome refusal
-refused-is k A U e = λ i. record { number = e i .number; place = e i .place; counts = e i .counts; authority = A; user = U }
 
 pub short-authority : (judged : _) (p : StoredPath) (A U : List ℕ) → length A < Limits.table → path-judged judged p A U ≡ refusal Numbers.table-short A U
 unfolding path-judged unless-short

@@ -1,7 +1,7 @@
 // The judge on records and on decoded paths, by the policy graph of RFC 9618.
 ghost use mathlib.Core.Path.{_≡_};
 ghost use Prim.Native.Nat.{_≤_};
-ghost use lib.ListN.{length, replicate};
+ghost use lib.ListN.{length};
 ghost use Rattle.rules.specs.Limits as Limits;
 ghost use Rattle.rules.specs.Layout.{path-of};
 ghost use Rattle.rules.specs.Faults.{path-fault};
@@ -9,11 +9,11 @@ ghost use Rattle.rules.specs.Graph as Graph;
 ghost use Rattle.rules.specs.Judge.{outcome, verdict, path-judged};
 ghost use Rattle.record.specs.Unpacked.{unpacked};
 ghost use Rattle.graph.specs.Sound.{Sound};
+use demands::refused;
 use faults::path_fault;
 use pack::pack;
 use record::RECORD;
 use rules::Answer;
-use rules::DEPTHS;
 use rules::Path;
 use rules::TABLE;
 use rules::TABLE_SHORT;
@@ -43,17 +43,6 @@ pub fn judge(path: Path, authority: &mut [u16], user: &mut [u16]) -> Answer
     let mut rec = [0u16; RECORD];
     let places = pack(path, &mut rec);
     judge_record(&mut rec, places, authority, user)
-}
-
-// A refusal: the tables are left as they are.
-fn refused(number: u8) -> Answer
-    ensures { λ r. ⌜ r ≡ record { number = number; place = 0; counts = replicate Limits.depths 0 } ⌝ }
-{
-    Answer {
-        number,
-        place: 0,
-        counts: [0u16; DEPTHS],
-    }
 }
 
 // "7 first"; then a path's own faults; then the judgement.

@@ -8,6 +8,6 @@ use Rattle.rules.specs.Judge.{after-reading}
 use Rattle.rules.specs.Face.{sheet-exported}
 use Rattle.demands.proofs.Exported.{export}
 
-pub sheet-export : (s A U C : List ℕ) → export A U C (after-reading Graph.judged (read-sheet s) A U) ≡ sheet-exported s A U C
+pub sheet-export : (s A U C K : List ℕ) → export A U C K (after-reading Graph.judged (read-sheet s) A U) ≡ sheet-exported s A U C K
 unfolding export sheet-exported
-sheet-export s A U C = refl
+sheet-export s A U C K = refl

@@ -1,4 +1,4 @@
--- A number that `refuses` names says all of an answer of the judge: both tables are as they were, the place is 0 and every count is 0.
+-- A number that `refuses` names says all of an answer of the judge: both tables are as they were, the place, every count and every counter is 0.
 use Prim.Native.Nat.{ℕ, _≤_}
 use mathlib.Core.Bool.{true}
 use mathlib.Core.List.{List}

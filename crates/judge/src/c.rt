@@ -16,6 +16,7 @@ use reader::certificates_named;
 use record::NEAR_CERTIFICATES;
 use record::NEAR_RECORD;
 use record::RECORD;
+use rules::COUNTERS;
 use rules::DEPTHS;
 use rules::SHEET_BYTES;
 use rules::TABLE;
@@ -23,16 +24,18 @@ use rules::TABLE;
 // "a lent table is too short"
 const SHORT: u32 = rules::TABLE_SHORT as u32;
 
-// The judge on a sheet: the number and 256 times the place. The counts go to the first DEPTHS places of `counts`.
-// 7 where a table has fewer than TABLE places or `counts` fewer than DEPTHS: then nothing is written.
+// The judge on a sheet: the number and 256 times the place. The counts go to the first DEPTHS places of `counts`,
+// the counters, explicit, mapping and any, to the first COUNTERS places of `counters`.
+// 7 where a table has fewer than TABLE places, `counts` fewer than DEPTHS or `counters` fewer than COUNTERS: then nothing is written.
 #[no_mangle]
 pub extern "C" fn skandrulo_judge_sheet(
     sheet: &[u8],
     authority: &mut [u16],
     user: &mut [u16],
     counts: &mut [u16],
+    counters: &mut [u16],
 ) -> u32
-    ensures { λ r. ⌜ _≡_ {A = Judged} (record { result = r; authority = now (authority .exit); user = now (user .exit); counts = now (counts .exit) }) (sheet-exported (now (sheet .entry)) (now (authority .entry)) (now (user .entry)) (now (counts .entry))) ⌝ }
+    ensures { λ r. ⌜ _≡_ {A = Judged} (record { result = r; authority = now (authority .exit); user = now (user .exit); counts = now (counts .exit); counters = now (counters .exit) }) (sheet-exported (now (sheet .entry)) (now (authority .entry)) (now (user .entry)) (now (counts .entry)) (now (counters .entry))) ⌝ }
 {
     if authority.len() < TABLE {
         return SHORT;
@@ -43,9 +46,13 @@ pub extern "C" fn skandrulo_judge_sheet(
     if counts.len() < DEPTHS {
         return SHORT;
     }
+    if counters.len() < COUNTERS {
+        return SHORT;
+    }
     let answer = judge_sheet(sheet, authority, user);
     let found = answer.counts;
     sets::copy(counts, 0, &found);
+    counters::put(answer.counters, counters);
     (answer.number as u32) + 256 * (answer.place as u32)
 }
 
@@ -91,18 +98,20 @@ pub extern "C" fn skandrulo_rewrite_sheet(sheet: &[u8], buffer: &mut [u8]) -> u3
     rewrite_in(sheet, &mut rec, buffer)
 }
 
-// The judge on a record handed over: the number and 256 times the place. The counts go to the first DEPTHS places of `counts`.
-// 7 where a table has fewer than TABLE places or `counts` fewer than DEPTHS: then nothing is written.
+// The judge on a record handed over: the number and 256 times the place. The counts go to the first DEPTHS places of `counts`,
+// the counters, explicit, mapping and any, to the first COUNTERS places of `counters`.
+// 7 where a table has fewer than TABLE places, `counts` fewer than DEPTHS or `counters` fewer than COUNTERS: then nothing is written.
 #[no_mangle]
 pub extern "C" fn skandrulo_judge_record(
     given: &[u16],
     authority: &mut [u16],
     user: &mut [u16],
     counts: &mut [u16],
+    counters: &mut [u16],
 ) -> u32
-    ensures { λ r. ⌜ _≡_ {A = Judged} (record { result = r; authority = now (authority .exit); user = now (user .exit); counts = now (counts .exit) }) (record-exported (now (given .entry)) (now (authority .entry)) (now (user .entry)) (now (counts .entry))) ⌝ }
+    ensures { λ r. ⌜ _≡_ {A = Judged} (record { result = r; authority = now (authority .exit); user = now (user .exit); counts = now (counts .exit); counters = now (counters .exit) }) (record-exported (now (given .entry)) (now (authority .entry)) (now (user .entry)) (now (counts .entry)) (now (counters .entry))) ⌝ }
 {
-    records::judge_exported(given, authority, user, counts)
+    records::judge_exported(given, authority, user, counts, counters)
 }
 
 // The sheet of a record's path, first in the buffer: the refusal, or 256 times the sheet's length.

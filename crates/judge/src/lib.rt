@@ -12,7 +12,6 @@ ghost use Rattle.rules.specs.Paths.{Path as RulesPath};
 ghost use Rattle.rules.specs.Layout.{path-of};
 ghost use Rattle.rules.specs.Sheet.{read-sheet, read};
 ghost use Rattle.rules.specs.Judge.{outcome, sheet-judged, path-judged, Bounded};
-ghost use Rattle.rules.specs.Face.{refused-answer};
 ghost use Rattle.reader.specs.Room.{RoomFor};
 pub use c::skandrulo_judge_record;
 pub use c::skandrulo_judge_sheet;
@@ -21,26 +20,15 @@ pub use c::skandrulo_read_record;
 pub use c::skandrulo_refuses;
 pub use c::skandrulo_rewrite_sheet;
 pub use c::skandrulo_write_record;
+use demands::refused;
 use reader::certificates_named;
 use record::NEAR_CERTIFICATES;
 use record::NEAR_RECORD;
 use record::RECORD;
 use rules::Answer;
-use rules::DEPTHS;
 use rules::Path;
 use rules::TABLE;
 use rules::TABLE_SHORT;
-
-// A refusal: place 0 and no counts.
-fn refused(number: u8) -> Answer
-    ensures { λ r. ⌜ r ≡ refused-answer number ⌝ }
-{
-    Answer {
-        number,
-        place: 0,
-        counts: [0; DEPTHS],
-    }
-}
 
 // The judge on a sheet, read into a lent record; both tables are long enough. What the record then holds is left free.
 fn judge_in(sheet: &[u8], rec: &mut [u16], authority: &mut [u16], user: &mut [u16]) -> Answer

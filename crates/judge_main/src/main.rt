@@ -1,7 +1,9 @@
-// Standard input to the lines of document 01: the verdict and its place, the counts, and the two sets. After a refusal only the first line.
+// Standard input to the lines of document 01: the verdict and its place, the counts, the two sets, and document 02's fifth line, the counters.
+// After a refusal only the first line.
 use libc::STDIN_FILENO;
 use libc::STDOUT_FILENO;
 use rules::Answer;
+use rules::Counters;
 use rules::DEPTHS;
 use rules::SHEET_BYTES;
 use rules::TABLE;
@@ -42,6 +44,13 @@ fn numbers(counts: &[u16]) {
     }
 }
 
+// " N" for each counter, in the order explicit, mapping, any.
+fn counters(k: Counters) {
+    spaced(k.explicit);
+    spaced(k.mapping);
+    spaced(k.any);
+}
+
 fn report(answer: Answer, authority: &[u16], user: &[u16]) {
     text(b"verdict ");
     number(answer.number as u64);
@@ -58,6 +67,8 @@ fn report(answer: Answer, authority: &[u16], user: &[u16]) {
     members(authority);
     text(b"\nuser");
     members(user);
+    text(b"\ncounters");
+    counters(answer.counters);
     text(b"\n");
 }
 

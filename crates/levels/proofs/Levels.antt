@@ -9,7 +9,7 @@ use lib.ListN.{length}
 use Rattle.rules.specs.Numbers as Numbers
 use Rattle.rules.specs.Sets.{pick, _∈_, select, each, empty, ascending}
 use Rattle.rules.specs.Paths.{Path, Certificate, any, listed}
-use Rattle.rules.specs.Counters.{Counters, at-start, after, at-end}
+use Rattle.rules.specs.Counters.{Counters, all-zero, at-start, after, at-end}
 use Rattle.rules.specs.Answers.{Answer, failed, any-allowed}
 use Rattle.rules.specs.Graph.{test-9}
 
@@ -139,17 +139,18 @@ conclude p k last steps =
       counts = counts-of (last ∷ above) [];
       authority = authority;
       user = user;
+      counters = k;
     }
 
 -- certificate by certificate, from certificate i, with the steps before it, the deepest first
 unfoldable pub run : Path → ℕ → List Certificate → Counters → List ℕ → Bool → List Step → Answer
-unfolding pick new-level mapped expected conclude empty failed none test-9 after at-end _∈_
-run p i [] k E any-above steps = failed Numbers.wrong-count 0
+unfolding pick new-level mapped expected conclude empty failed all-zero none test-9 after at-end _∈_
+run p i [] k E any-above steps = failed Numbers.wrong-count 0 all-zero
 run p i (c ∷ cs) k E any-above steps =
     let L = new-level (empty cs) k c E any-above in
     let M = mapped (k .mapping) c L in
-    pick (eqb (k .explicit) 0 && none L) (failed Numbers.no-graph i)
-    (pick (test-9 (empty cs) c) (failed Numbers.any-mapped i)
+    pick (eqb (k .explicit) 0 && none L) (failed Numbers.no-graph i k)
+    (pick (test-9 (empty cs) c) (failed Numbers.any-mapped i k)
     (pick (empty cs) (conclude p (at-end c k) L steps)
     (run p (suc i) cs (after c k) (expected c M) (any ∈ M .inherited) (record { certificate = c; level = M } ∷ steps))))
 

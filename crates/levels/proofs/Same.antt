@@ -98,7 +98,7 @@ user-same users A s = ap (pick (any ∈ users) A) (go (any ∈ A))
 
 -- the end
 
-engine-conclude : (p : Path) (k : Counters) (L : Levels.Level) (ss : List Levels.Step) → Levels.conclude p k L ss ≡ answer (eqb (k .explicit) 0 && empty (Levels.user-of (p .user-list) (Levels.authority-of L (Levels.pruned L ss)))) (length (p .certificates)) (Levels.counts-of (L ∷ Levels.pruned L ss) []) (Levels.authority-of L (Levels.pruned L ss)) (Levels.user-of (p .user-list) (Levels.authority-of L (Levels.pruned L ss)))
+engine-conclude : (p : Path) (k : Counters) (L : Levels.Level) (ss : List Levels.Step) → Levels.conclude p k L ss ≡ answer (eqb (k .explicit) 0 && empty (Levels.user-of (p .user-list) (Levels.authority-of L (Levels.pruned L ss)))) (length (p .certificates)) (Levels.counts-of (L ∷ Levels.pruned L ss) []) (Levels.authority-of L (Levels.pruned L ss)) (Levels.user-of (p .user-list) (Levels.authority-of L (Levels.pruned L ss))) k
 unfolding Levels.conclude
 engine-conclude p k L ss = refl
 
@@ -113,7 +113,7 @@ graph-levels g = refl
 conclude-same : (p : Path) (k : Counters) (A : Level) (vs : List Level) (g : Graph.Graph) (L : Levels.Level) (ss : List Levels.Step) → Stack ss A vs → Late (A ∷ vs) g → Reflects A (g .deepest) L → Ascending L → Levels.conclude p k L ss ≡ Graph.conclude p k g
 conclude-same p k A vs g L ss t l r s =
     engine-conclude p k L ss
-    ∙ (λ i. answer (eqb (k .explicit) 0 && empty (user i)) (length (p .certificates)) (counts i) (authority i) (user i))
+    ∙ (λ i. answer (eqb (k .explicit) 0 && empty (user i)) (length (p .certificates)) (counts i) (authority i) (user i) k)
     ∙ sym (graph-conclude p k g)
   where
     seen : Read (g .deepest ∷ climb (g .deepest) (A ∷ vs)) (L ∷ Levels.pruned L ss)
@@ -213,7 +213,7 @@ module _ (p : Path) (d : ℕ) (c : Certificate) (cs : List Certificate) (k : Cou
 
   -- tests 8 and 9
   abbrev tested : Bool → Answer → Answer
-  tested gone r = pick (eqb (k .explicit) 0 && gone) (failed Numbers.no-graph (suc d)) (pick (Graph.test-9 (empty cs) c) (failed Numbers.any-mapped (suc d)) r)
+  tested gone r = pick (eqb (k .explicit) 0 && gone) (failed Numbers.no-graph (suc d) k) (pick (Graph.test-9 (empty cs) c) (failed Numbers.any-mapped (suc d) k) r)
 
 engine-run : (p : Path) (d : ℕ) (c : Certificate) (cs : List Certificate) (k : Counters) (E : List ℕ) (a : Bool) (ss : List Levels.Step) → Levels.run p (suc d) (c ∷ cs) k E a ss ≡ tested p d c cs k (Levels.none (Levels.new-level (empty cs) k c E a)) (engine-next p d c cs k ss (Levels.new-level (empty cs) k c E a))
 unfolding Levels.run
@@ -224,7 +224,7 @@ run-step : (p : Path) (d : ℕ) (c : Certificate) (cs : List Certificate) (k : C
 unfolding pick Graph.test-8
 run-step p d c cs k g vs E a ss u t z =
     engine-run p d c cs k E a ss
-    ∙ ap₂ (λ b r. pick (eqb (k .explicit) 0 && b) (failed Numbers.no-graph (suc d)) r) gone (by-cases (Graph.test-9 (empty cs) c) (λ m. rw m) (λ m. rw m (z m)))
+    ∙ ap₂ (λ b r. pick (eqb (k .explicit) 0 && b) (failed Numbers.no-graph (suc d) k) r) gone (by-cases (Graph.test-9 (empty cs) c) (λ m. rw m) (λ m. rw m (z m)))
     ∙ sym (graph-run p (suc d) c cs k g)
   where
     L : Levels.Level
@@ -262,7 +262,7 @@ engine-judged : (p : Path) → Levels.judged p ≡ Levels.run p 1 (p .certificat
 unfolding Levels.judged
 engine-judged p = refl
 
--- the engine's levels and the graph say the same: verdict, place, counts, authority set and user set
+-- the engine's levels and the graph say the same: verdict, place, counts, authority set, user set and counters
 pub levels-same : (p : Path) → WellFormed p → Levels.judged p ≡ Graph.judged p
 levels-same p w = engine-judged p ∙ go (p .certificates) (w .some-certificate) (w .no-repeats) ∙ sym (graph-judged p)
   where

@@ -1,5 +1,5 @@
-// For each decoded path on standard input a line with what the judge of decoded paths and the writer answer: the judge's number, place
-// and counts, a digest of each table, the writer's number and length, and a digest of the buffer.
+// For each decoded path on standard input a line with what the judge of decoded paths and the writer answer: the judge's number, place,
+// counts and counters, a digest of each table, the writer's number and length, and a digest of the buffer.
 //
 // The input is a number of records, and the records. A record is the lengths of the authority table, the user table and the buffer
 // that are lent; the three flags; the user count and every place of the user list; the certificate count; and for each place of a
@@ -9,8 +9,10 @@
 ghost use Prim.Native.Nat.{_≤_};
 use libc::STDIN_FILENO;
 use libc::STDOUT_FILENO;
+use rules::Answer;
 use rules::CERTIFICATES;
 use rules::Certificate;
+use rules::Counters;
 use rules::LISTED;
 use rules::Path;
 use rules::SHEET_BYTES;
@@ -172,16 +174,28 @@ fn counts(list: &[u16]) {
     }
 }
 
-// The judge with the first places of each table, as many as the record says.
-fn judged(record: &[u8], authority: &mut [u16], user: &mut [u16]) {
-    let a = least(number(record, 0) as usize, authority.len());
-    let u = least(number(record, 1) as usize, user.len());
-    let answer = judge::judge_path(path(record), &mut authority[..a], &mut user[..u]);
+// The counters, in the order explicit, mapping, any.
+fn counters(k: Counters) {
+    spaced(wide_place(k.explicit));
+    spaced(wide_place(k.mapping));
+    spaced(wide_place(k.any));
+}
+
+fn said(answer: Answer) {
     text(b"judge");
     spaced(answer.number as u64);
     spaced(answer.place as u64);
     let list = answer.counts;
     counts(&list);
+    counters(answer.counters);
+}
+
+// The judge with the first places of each table, as many as the record says.
+fn judged(record: &[u8], authority: &mut [u16], user: &mut [u16]) {
+    let a = least(number(record, 0) as usize, authority.len());
+    let u = least(number(record, 1) as usize, user.len());
+    let answer = judge::judge_path(path(record), &mut authority[..a], &mut user[..u]);
+    said(answer);
     spaced(table_digest(authority));
     spaced(table_digest(user));
 }

@@ -3,7 +3,7 @@ use Prim.Native.Nat.{ℕ, suc, _-_}
 use mathlib.Core.List.{List, [], _∷_, _++_, map}
 use mathlib.Core.Path.{_≡_, refl}
 use lib.ListN.{length, replicate}
-use Rattle.rules.specs.Limits.{table, depths}
+use Rattle.rules.specs.Limits.{table, depths, counters}
 use Rattle.rules.specs.Paths.{Path}
 use Rattle.rules.specs.Answers.{Answer}
 use Rattle.rules.specs.Graph as Graph
@@ -114,8 +114,8 @@ known-feed = refl
 
 -- the state's own 7 leaves it, and that of a table leaves it fresh
 abbrev ended : ℕ → ℕ → List ℕ → Ended
-ended k a bytes = record { judged = record { result = k; authority = replicate a 7; user = replicate table 8; counts = replicate depths 9 }; state = bytes }
+ended k a bytes = record { judged = record { result = k; authority = replicate a 7; user = replicate table 8; counts = replicate depths 9; counters = replicate counters 6 }; state = bytes }
 
-known-finish : map (λ bytes. finish-exported bytes (replicate (table - 1) 7) (replicate table 8) (replicate depths 9)) (lent (state-bytes - 1) ∷ lent (suc state-bytes) ∷ lent state-bytes ∷ []) ≡ ended 7 (table - 1) (lent (state-bytes - 1)) ∷ ended 7 (table - 1) (lent (suc state-bytes)) ∷ ended 7 (table - 1) (replicate state-bytes 0) ∷ []
+known-finish : map (λ bytes. finish-exported bytes (replicate (table - 1) 7) (replicate table 8) (replicate depths 9) (replicate counters 6)) (lent (state-bytes - 1) ∷ lent (suc state-bytes) ∷ lent state-bytes ∷ []) ≡ ended 7 (table - 1) (lent (state-bytes - 1)) ∷ ended 7 (table - 1) (lent (suc state-bytes)) ∷ ended 7 (table - 1) (replicate state-bytes 0) ∷ []
 unfolding lent finish-exported
 known-finish = refl

@@ -84,17 +84,17 @@ module _ (lent : List ℕ) where
 
   -- the finish
 
-  pub finish-wrong : (A U C : List ℕ) → (length lent ≡ state-bytes → ⊥)
-      → _≡_ {A = Ended} (record { judged = record { result = Numbers.table-short; authority = A; user = U; counts = C }; state = lent }) (finish-exported lent A U C)
+  pub finish-wrong : (A U C K : List ℕ) → (length lent ≡ state-bytes → ⊥)
+      → _≡_ {A = Ended} (record { judged = record { result = Numbers.table-short; authority = A; user = U; counts = C; counters = K }; state = lent }) (finish-exported lent A U C K)
   unfolding finish-exported
-  finish-wrong A U C h = sym (pick-no _ _ (ne-eqb (length lent) state-bytes h))
+  finish-wrong A U C K h = sym (pick-no _ _ (ne-eqb (length lent) state-bytes h))
 
-  pub finish-right : (A U C now sheet : List ℕ) (before m : ℕ) (j : Judged) → length lent ≡ state-bytes → m ≡ length lent - 2 → before ≡ 256 * getD lent 0 0 + getD lent 1 0
-      → sheet ≡ take before (places-in m) → j ≡ sheet-exported sheet A U C → now ≡ replicate (length lent) 0
-      → _≡_ {A = Ended} (record { judged = j; state = now }) (finish-exported lent A U C)
+  pub finish-right : (A U C K now sheet : List ℕ) (before m : ℕ) (j : Judged) → length lent ≡ state-bytes → m ≡ length lent - 2 → before ≡ 256 * getD lent 0 0 + getD lent 1 0
+      → sheet ≡ take before (places-in m) → j ≡ sheet-exported sheet A U C K → now ≡ replicate (length lent) 0
+      → _≡_ {A = Ended} (record { judged = j; state = now }) (finish-exported lent A U C K)
   unfolding finish-exported held state-in
-  finish-right A U C now sheet before m j h q b s e z =
+  finish-right A U C K now sheet before m j h q b s e z =
       let bytes : sheet ≡ take (256 * getD lent 0 0 + getD lent 1 0) (drop 2 lent) = s ∙ ap₂ take b (places-all m q) in
-      let f : j ≡ sheet-exported (take (256 * getD lent 0 0 + getD lent 1 0) (drop 2 lent)) A U C = e ∙ ap (λ xs. sheet-exported xs A U C) bytes in
+      let f : j ≡ sheet-exported (take (256 * getD lent 0 0 + getD lent 1 0) (drop 2 lent)) A U C K = e ∙ ap (λ xs. sheet-exported xs A U C K) bytes in
       let g : now ≡ lent-as fresh-state = z ∙ ap (λ n. replicate n 0) h ∙ zeros in
       (λ i. record { judged = f i; state = g i }) ∙ sym (pick-yes _ _ (eq-eqb (length lent) state-bytes h))

@@ -73,26 +73,26 @@ all-sound s [] w = w
 all-sound s (piece ∷ pieces) w = all-sound (fed s piece) pieces (fed-sound s piece)
 
 -- the finish, over a state in its lent bytes
-finish-lent : (s : State) (A U C : List ℕ) → Sound s → finish-exported (lent-as s) A U C ≡ record { judged = sheet-exported (held s) A U C; state = lent-as fresh-state }
+finish-lent : (s : State) (A U C K : List ℕ) → Sound s → finish-exported (lent-as s) A U C K ≡ record { judged = sheet-exported (held s) A U C K; state = lent-as fresh-state }
 unfolding finish-exported
-finish-lent s A U C w =
+finish-lent s A U C K w =
     pick-yes _ _ (eq-eqb (length (lent-as s)) state-bytes (lent-size s w))
-    ∙ ap (λ (x : State). record { judged = sheet-exported (held x) A U C; state = lent-as fresh-state }) (lent-back s w)
+    ∙ ap (λ (x : State). record { judged = sheet-exported (held x) A U C K; state = lent-as fresh-state }) (lent-back s w)
 
 -- bytes beyond those that are kept change nothing of what the judge for C gives
-kept-exported : (s A U C : List ℕ) → sheet-exported (take kept s) A U C ≡ sheet-exported s A U C
-kept-exported s A U C =
-    sym (sheet-export (take kept s) A U C)
-    ∙ ap (λ x. export A U C (after-reading Graph.judged x A U)) (beyond-longest kept (omega arith) s)
-    ∙ sheet-export s A U C
+kept-exported : (s A U C K : List ℕ) → sheet-exported (take kept s) A U C K ≡ sheet-exported s A U C K
+kept-exported s A U C K =
+    sym (sheet-export (take kept s) A U C K)
+    ∙ ap (λ x. export A U C K (after-reading Graph.judged x A U)) (beyond-longest kept (omega arith) s)
+    ∙ sheet-export s A U C K
 
 fresh-sound : Sound fresh-state
 unfolding fresh-state
 fresh-sound = made-sound []
 
-pub lent-pieces-judged : (pieces : List (List ℕ)) (A U C : List ℕ) → finish-exported (lent-fed-all (lent-as fresh-state) pieces) A U C ≡ record { judged = sheet-exported (joined pieces) A U C; state = lent-as fresh-state }
-lent-pieces-judged pieces A U C =
-    ap (λ lent. finish-exported lent A U C) (lent-all fresh-state pieces fresh-sound)
-    ∙ finish-lent (fed-all fresh-state pieces) A U C (all-sound fresh-state pieces fresh-sound)
-    ∙ ap (λ s. record { judged = sheet-exported s A U C; state = lent-as fresh-state }) (held-after pieces)
-    ∙ ap (λ j. record { judged = j; state = lent-as fresh-state }) (kept-exported (joined pieces) A U C)
+pub lent-pieces-judged : (pieces : List (List ℕ)) (A U C K : List ℕ) → finish-exported (lent-fed-all (lent-as fresh-state) pieces) A U C K ≡ record { judged = sheet-exported (joined pieces) A U C K; state = lent-as fresh-state }
+lent-pieces-judged pieces A U C K =
+    ap (λ lent. finish-exported lent A U C K) (lent-all fresh-state pieces fresh-sound)
+    ∙ finish-lent (fed-all fresh-state pieces) A U C K (all-sound fresh-state pieces fresh-sound)
+    ∙ ap (λ s. record { judged = sheet-exported s A U C K; state = lent-as fresh-state }) (held-after pieces)
+    ∙ ap (λ j. record { judged = j; state = lent-as fresh-state }) (kept-exported (joined pieces) A U C K)

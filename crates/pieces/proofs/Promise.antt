@@ -67,7 +67,13 @@ pub record Demands (s A U : List ℕ) (o : Outcome) : Type 0 where
 
 -- an answer in the code's own type
 abbrev as-answer : Outcome → StoredAnswer
-as-answer o = record { number = o .number; place = o .place; counts = o .counts }
+as-answer o =
+    record {
+      number = o .number;
+      place = o .place;
+      counts = o .counts;
+      counters = record { explicit = o .counters .explicit; mapping = o .counters .mapping; any = o .counters .any };
+    }
 
 answered : (o : Outcome) → outcome (as-answer o) (o .authority) (o .user) ≡ o
 unfolding outcome

@@ -45,9 +45,9 @@ pub record Ended : Type 0 where
   pub state : List ℕ
 
 -- 7 first, where the state has another number of bytes: nothing is written. After every other answer, also a 7 of the judge's own, the state is fresh.
-unfoldable pub finish-exported : List ℕ → List ℕ → List ℕ → List ℕ → Ended
+unfoldable pub finish-exported : List ℕ → List ℕ → List ℕ → List ℕ → List ℕ → Ended
 unfolding pick sheet-exported held state-in lent-as fresh-state
-finish-exported lent A U C =
+finish-exported lent A U C K =
     pick (eqb (length lent) state-bytes)
-    (record { judged = sheet-exported (held (state-in lent)) A U C; state = lent-as fresh-state })
-    (record { judged = record { result = Numbers.table-short; authority = A; user = U; counts = C }; state = lent })
+    (record { judged = sheet-exported (held (state-in lent)) A U C K; state = lent-as fresh-state })
+    (record { judged = record { result = Numbers.table-short; authority = A; user = U; counts = C; counters = K }; state = lent })

@@ -69,15 +69,16 @@ pub extern "C" fn skandrulo_finish(
     authority: &mut [u16],
     user: &mut [u16],
     counts: &mut [u16],
+    counters: &mut [u16],
 ) -> u32
-    ensures { λ r. ⌜ _≡_ {A = Ended} (record { judged = record { result = r; authority = now (authority .exit); user = now (user .exit); counts = now (counts .exit) }; state = now (state .exit) }) (finish-exported (now (state .entry)) (now (authority .entry)) (now (user .entry)) (now (counts .entry))) ⌝ }
+    ensures { λ r. ⌜ _≡_ {A = Ended} (record { judged = record { result = r; authority = now (authority .exit); user = now (user .exit); counts = now (counts .exit); counters = now (counters .exit) }; state = now (state .exit) }) (finish-exported (now (state .entry)) (now (authority .entry)) (now (user .entry)) (now (counts .entry)) (now (counters .entry))) ⌝ }
 {
     if state.len() != STATE {
         return SHORT;
     }
     let count = count_of(state);
     let sheet = held(&state[2..], count);
-    let result = skandrulo_judge_sheet(sheet, authority, user, counts);
+    let result = skandrulo_judge_sheet(sheet, authority, user, counts, counters);
     clear(state);
     result
 }

@@ -54,7 +54,7 @@ fn add_issuers(issuers: &[u16], row: &mut [u8])
 }
 
 // A certificate's mappings, where policy_mapping is `mapping`.
-pub fn map_row(mapping: usize, issuers: &[u16], row: &mut [u8])
+pub fn map_row(mapping: u16, issuers: &[u16], row: &mut [u8])
     requires { ⌜ Within (length (now row)) (now issuers) ⌝ }
     requires { ⌜ 0 < length (now row) ⌝ }
     ensures { λ r. ⌜ now (row .exit) ≡ spec.map-row mapping (now (issuers .entry)) (now (row .entry)) ⌝ }

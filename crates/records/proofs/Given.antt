@@ -131,6 +131,6 @@ module _ (r A U : List ℕ) where
         d ∙ ap (λ p. verdict (Graph.judged p) A U) f ∙ sym (judged-long ∙ ap (λ k. unless-fault k (Graph.judged (path-given r)) A U) e)
 
 -- what is exported, in the form that sheets have too
-pub record-export : (r A U C : List ℕ) → export A U C (after-faults Graph.judged r A U) ≡ record-exported r A U C
+pub record-export : (r A U C K : List ℕ) → export A U C K (after-faults Graph.judged r A U) ≡ record-exported r A U C K
 unfolding export record-exported
-record-export r A U C = refl
+record-export r A U C K = refl

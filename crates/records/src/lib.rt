@@ -10,7 +10,6 @@ ghost use Rattle.rules.specs.Graph as Graph;
 ghost use Rattle.rules.specs.Tree as Tree;
 ghost use Rattle.rules.specs.Numbers as Numbers;
 ghost use Rattle.rules.specs.Judge.{outcome, Bounded};
-ghost use Rattle.rules.specs.Face.{refused-answer};
 ghost use Rattle.record.specs.Record.{packed};
 ghost use Rattle.given.specs.Given.{path-given};
 ghost use Rattle.given.specs.Faults.{record-fault};
@@ -19,6 +18,7 @@ use accept::accept;
 use accept::record_fault;
 pub use codec::read_record;
 pub use codec::write_record;
+use demands::refused;
 pub use export::judge_exported;
 use record::N;
 use record::NEAR_CERTIFICATES;
@@ -26,20 +26,8 @@ use record::NEAR_RECORD;
 use record::RECORD;
 use record::count_at;
 use rules::Answer;
-use rules::DEPTHS;
 use rules::TABLE;
 use rules::TABLE_SHORT;
-
-// A refusal: place 0 and no counts.
-fn refused(number: u8) -> Answer
-    ensures { λ r. ⌜ r ≡ refused-answer number ⌝ }
-{
-    Answer {
-        number,
-        place: 0,
-        counts: [0; DEPTHS],
-    }
-}
 
 // The judge on a record without fault, put into a lent one; both tables are long enough. What the lent one then holds is left free.
 fn judge_in(given: &[u16], rec: &mut [u16], authority: &mut [u16], user: &mut [u16]) -> Answer

@@ -7,11 +7,7 @@ use Rattle.rules.specs.declared.Skip.{Skip}
 use Rattle.rules.specs.declared.Skip.the-variants.{Absent, Certificates}
 use Rattle.rules.specs.Paths.{Path, Certificate}
 use Rattle.rules.specs.Counters.{Counters, at-start, after, at-end}
-use Rattle.rules.proofs.Notation.{certificate, plain, path}
-
--- explicit_policy, policy_mapping and inhibit_anyPolicy
-unfoldable counters : ℕ → ℕ → ℕ → Counters
-counters e m a = record { explicit = e; mapping = m; any = a }
+use Rattle.rules.proofs.Notation.{certificate, plain, path, counters}
 
 pub record StartRow : Type 0 where
   pub path : Path

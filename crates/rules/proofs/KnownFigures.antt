@@ -29,6 +29,8 @@ rows =
     ∷ (Limits.table - 1 is 898)
     -- "the counts have sixteen places"
     ∷ (Limits.depths is 16)
+    -- the counters explicit, mapping and any, a place for each
+    ∷ (Limits.counters is 3)
     -- "the longest sheet is 2,929 bytes": 23,432 bits
     ∷ (Limits.sheet-bits is 23432)
     ∷ (Limits.sheet-bytes is 2929)

@@ -9,6 +9,7 @@ use Rattle.rules.specs.declared.Certificate.{Certificate as StoredCertif
 use Rattle.rules.specs.declared.Path.{Path as StoredPath}
 use Rattle.rules.specs.Limits as Limits
 use Rattle.rules.specs.Paths.{Path, Certificate, Mapping}
+use Rattle.rules.specs.Counters.{Counters}
 
 unfoldable pub _to_ : ℕ → ℕ → Mapping
 a to b = record { issuer = a; subject = b }
@@ -26,6 +27,10 @@ plain ps ms = certificate false ps ms Absent Absent Absent
 -- the flags mapping inhibit, explicit policy and anyPolicy inhibit, the user list, and the certificates
 unfoldable pub path : Bool → Bool → Bool → List ℕ → List Certificate → Path
 path mi ep ai us cs = record { mapping-inhibit = mi; explicit-policy = ep; any-inhibit = ai; user-list = us; certificates = cs }
+
+-- explicit_policy, policy_mapping and inhibit_anyPolicy
+unfoldable pub counters : ℕ → ℕ → ℕ → Counters
+counters e m a = record { explicit = e; mapping = m; any = a }
 
 -- the path of case E
 unfoldable pub case-E : Path
@@ -82,7 +87,7 @@ stored-path mi ep ai uc us n cs =
       certificates = cs ++ replicate (Limits.certificates - length cs) faulty;
     }
 
--- the sheets of cases A, D, E, H with user 51, and K, of a path whose first certificate, of two, maps anyPolicy, and of one whose first certificate does so in a pair repeated
+-- the sheets of cases A, D, E, F, H with user 51, and K, of a path whose first certificate, of two, maps anyPolicy, and of one whose first certificate does so in a pair repeated
 unfoldable pub sheet-A : List ℕ
 sheet-A = 0x12 ∷ 0x01 ∷ 0x00 ∷ 0x01 ∷ 0x46 ∷ 0x00 ∷ 0x16 ∷ 0x00 ∷ 0x18 ∷ 0x00 ∷ 0x1F ∷ 0x10 ∷ 0x00 ∷ 0x58 ∷ 0x00 ∷ 0x68 ∷ 0x00 ∷ 0x58 ∷ 0x00 ∷ 0x70 ∷ 0x46 ∷ 0x00 ∷ 0x18 ∷ 0x00 ∷ 0x1A ∷ 0x00 ∷ 0x20 ∷ 0x00 ∷ []
 
@@ -91,6 +96,9 @@ sheet-D = 0x11 ∷ 0x41 ∷ 0x00 ∷ 0x01 ∷ 0x00 ∷ []
 
 unfoldable pub sheet-E : List ℕ
 sheet-E = 0x11 ∷ 0x02 ∷ 0x00 ∷ 0x1E ∷ 0x00 ∷ 0x1F ∷ 0x42 ∷ 0x00 ∷ 0x02 ∷ 0x00 ∷ []
+
+unfoldable pub sheet-F : List ℕ
+sheet-F = 0x11 ∷ 0x22 ∷ 0x00 ∷ 0x1E ∷ 0x00 ∷ 0x1F ∷ 0x42 ∷ 0x00 ∷ 0x02 ∷ 0x00 ∷ []
 
 unfoldable pub sheet-H : List ℕ
 sheet-H = 0x12 ∷ 0x41 ∷ 0x00 ∷ 0x33 ∷ 0x42 ∷ 0x00 ∷ 0x03 ∷ 0x08 ∷ 0x01 ∷ 0x90 ∷ 0x01 ∷ 0x98 ∷ 0x42 ∷ 0x00 ∷ 0x66 ∷ 0x00 ∷ []

@@ -7,17 +7,18 @@ use Rattle.rules.specs.Sets.{_∈_, some-of}
 use Rattle.rules.specs.Paths.{Certificate, any}
 use Rattle.rules.specs.Counters.{Counters}
 
--- the verdict, the certificate named, the count at each depth from 0 to n, and the two sets in ascending order
+-- the verdict, the certificate named, the count at each depth from 0 to n, the two sets in ascending order, and "the three counters as they stood when the verdict was reached"
 pub record Answer : Type 0 where
   pub verdict : ℕ
   pub place : ℕ
   pub counts : List ℕ
   pub authority : List ℕ
   pub user : List ℕ
+  pub counters : Counters
 
--- a verdict with no counts and empty sets
-unfoldable pub failed : ℕ → ℕ → Answer
-failed v i = record { verdict = v; place = i; counts = []; authority = []; user = [] }
+-- a verdict with no counts and empty sets, reached with these counters
+unfoldable pub failed : ℕ → ℕ → Counters → Answer
+failed v i k = record { verdict = v; place = i; counts = []; authority = []; user = []; counters = k }
 
 -- "a mapping names anyPolicy", as issuer or as subject
 unfoldable pub maps-any : Certificate → Bool

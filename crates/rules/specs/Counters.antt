@@ -13,6 +13,10 @@ pub record Counters : Type 0 where
   pub mapping : ℕ
   pub any : ℕ
 
+-- "all zero after any refusal that is not a verdict"
+unfoldable pub all-zero : Counters
+all-zero = record { explicit = 0; mapping = 0; any = 0 }
+
 -- "0 if its flag is set, else n+1"
 unfoldable pub at-start : Path → Counters
 unfolding pick

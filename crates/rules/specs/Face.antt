@@ -1,7 +1,7 @@
 -- What the functions for C and Rust give: a number, and what each lent slice then holds.
 use Prim.Native.Nat.{ℕ, _+_, _*_}
 use mathlib.Core.Bool.{_||_}
-use mathlib.Core.List.{List, _++_}
+use mathlib.Core.List.{List, _∷_, _++_}
 use lib.Dec.{ltb}
 use lib.ListN.{length, drop, replicate}
 use Rattle.rules.specs.declared.Answer.{Answer}
@@ -15,32 +15,34 @@ use Rattle.rules.specs.Judge.{Outcome, after-reading}
 
 -- a refusal in the code's own type
 abbrev pub refused-answer : ℕ → Answer
-refused-answer k = record { number = k; place = 0; counts = replicate Limits.depths 0 }
+refused-answer k = record { number = k; place = 0; counts = replicate Limits.depths 0; counters = record { explicit = 0; mapping = 0; any = 0 } }
 
--- the result and the three lent slices
+-- the result and the four lent slices
 pub record Judged : Type 0 where
   pub result : ℕ
   pub authority : List ℕ
   pub user : List ℕ
   pub counts : List ℕ
+  pub counters : List ℕ
 
--- the number and 256 times the place; the counts in the first places, one for each depth
-unfoldable pub exported : Outcome → List ℕ → Judged
-exported o C =
+-- the number and 256 times the place; the counts in the first places, one for each depth; the counters in the first three, in the order explicit, mapping, any
+unfoldable pub exported : Outcome → List ℕ → List ℕ → Judged
+exported o C K =
     record {
       result = o .number + 256 * o .place;
       authority = o .authority;
       user = o .user;
       counts = o .counts ++ drop Limits.depths C;
+      counters = o .counters .explicit ∷ o .counters .mapping ∷ o .counters .any ∷ drop Limits.counters K;
     }
 
--- 7 first, where a table or the counts are too short: nothing is written
-unfoldable pub sheet-exported : List ℕ → List ℕ → List ℕ → List ℕ → Judged
+-- 7 first, where a table, the counts or the counters are too short: nothing is written
+unfoldable pub sheet-exported : List ℕ → List ℕ → List ℕ → List ℕ → List ℕ → Judged
 unfolding pick exported after-reading read-sheet
-sheet-exported s A U C =
-    pick (ltb (length A) Limits.table || ltb (length U) Limits.table || ltb (length C) Limits.depths)
-    (record { result = Numbers.table-short; authority = A; user = U; counts = C })
-    (exported (after-reading Graph.judged (read-sheet s) A U) C)
+sheet-exported s A U C K =
+    pick (ltb (length A) Limits.table || ltb (length U) Limits.table || ltb (length C) Limits.depths || ltb (length K) Limits.counters)
+    (record { result = Numbers.table-short; authority = A; user = U; counts = C; counters = K })
+    (exported (after-reading Graph.judged (read-sheet s) A U) C K)
 
 -- the result and the lent buffer
 pub record Rewritten : Type 0 where

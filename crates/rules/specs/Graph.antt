@@ -6,7 +6,7 @@ use lib.Dec.{eqb}
 use lib.ListN.{length}
 use Rattle.rules.specs.Sets.{pick, _∈_, select, each, some-of, empty, ascending}
 use Rattle.rules.specs.Paths.{Path, Certificate, any, listed, issuers, subjects}
-use Rattle.rules.specs.Counters.{Counters, at-start, after, at-end}
+use Rattle.rules.specs.Counters.{Counters, all-zero, at-start, after, at-end}
 use Rattle.rules.specs.Answers.{Answer, failed, maps-any, any-allowed}
 use Rattle.rules.specs.Numbers as Numbers
 
@@ -167,7 +167,7 @@ unfoldable pub test-9 : Bool → Certificate → Bool
 unfolding maps-any
 test-9 last c = not last && maps-any c
 
--- after certificate n: verdict 10 at n where "explicit_policy is 0 and the user set is empty", else 0
+-- after certificate n: verdict 10 at n where "explicit_policy is 0 and the user set is empty", else 0; k has the counters "after the end rules"
 unfoldable pub conclude : Path → Counters → Graph → Answer
 unfolding pick empty user-of authority-of levels
 conclude p k g =
@@ -180,16 +180,17 @@ conclude p k g =
       counts = map (λ (l : Level). length l) (levels g);
       authority = authority;
       user = user;
+      counters = k;
     }
 
--- certificate by certificate, from certificate i: "8 before 9; then 10 or 0". A path with no certificate is refused.
+-- certificate by certificate, from certificate i: "8 before 9; then 10 or 0". k has the counters "before test 8 or 9 fails". A path with no certificate is refused.
 unfoldable pub run : Path → ℕ → List Certificate → Counters → Graph → Answer
-unfolding pick add-policies apply-mappings conclude empty failed test-8 test-9 after at-end
-run p i [] k g = failed Numbers.wrong-count 0
+unfolding pick add-policies apply-mappings conclude empty failed all-zero test-8 test-9 after at-end
+run p i [] k g = failed Numbers.wrong-count 0 all-zero
 run p i (c ∷ cs) k g =
     let h = add-policies (empty cs) k c g in
-    pick (test-8 k h) (failed Numbers.no-graph i)
-    (pick (test-9 (empty cs) c) (failed Numbers.any-mapped i)
+    pick (test-8 k h) (failed Numbers.no-graph i k)
+    (pick (test-9 (empty cs) c) (failed Numbers.any-mapped i k)
     (pick (empty cs) (conclude p (at-end c k) h) (run p (suc i) cs (after c k) (apply-mappings k c h))))
 
 -- the answer of RFC 9618's graph to a path

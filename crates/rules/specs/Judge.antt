@@ -11,26 +11,29 @@ use Rattle.rules.specs.Limits as Limits
 use Rattle.rules.specs.Numbers as Numbers
 use Rattle.rules.specs.Sets.{pick}
 use Rattle.rules.specs.Paths.{Path, listed-to}
-use Rattle.rules.specs.Layout.{placed, path-of}
+use Rattle.rules.specs.Layout.{placed, path-of, counted}
+use Rattle.rules.specs.Counters.{Counters, all-zero}
 use Rattle.rules.specs.Faults.{path-fault}
 use Rattle.rules.specs.Sheet.{Read, refused, read, read-sheet}
 use Rattle.rules.specs.Answers.{Answer}
 
--- the number, the place and a count for each depth, and what the lent tables then hold
+-- the number, the place, a count for each depth and the counters, and what the lent tables then hold
 pub record Outcome : Type 0 where
   pub number : ℕ
   pub place : ℕ
   pub counts : List ℕ
   pub authority : List ℕ
   pub user : List ℕ
+  pub counters : Counters
 
 -- the code's answer and the two tables at exit
 unfoldable pub outcome : StoredAnswer → List ℕ → List ℕ → Outcome
-outcome r A U = record { number = r .number; place = r .place; counts = r .counts; authority = A; user = U }
+outcome r A U = record { number = r .number; place = r .place; counts = r .counts; authority = A; user = U; counters = counted (r .counters) }
 
--- "After a refusal both are unchanged." The counts are "all zero otherwise".
+-- "After a refusal both are unchanged." The counts are "all zero otherwise", and the counters too.
 unfoldable pub refusal : ℕ → List ℕ → List ℕ → Outcome
-refusal k A U = record { number = k; place = 0; counts = replicate Limits.depths 0; authority = A; user = U }
+unfolding all-zero
+refusal k A U = record { number = k; place = 0; counts = replicate Limits.depths 0; authority = A; user = U; counters = all-zero }
 
 -- "After 8 and 9 both are all zero. After 0 and 10 each holds its set first, ascending, no repeats, and the places after the last policy are zeroed to the table's end."
 unfoldable pub verdict : Answer → List ℕ → List ℕ → Outcome
@@ -42,6 +45,7 @@ verdict a A U =
       counts = placed Limits.depths (a .counts);
       authority = placed (length A) (a .authority);
       user = placed (length U) (a .user);
+      counters = a .counters;
     }
 
 -- "7 first"

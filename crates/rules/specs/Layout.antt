@@ -1,4 +1,4 @@
--- A path in the code's own types, and the path as the rules read it.
+-- A path and the counters in the code's own types, and as the rules read them.
 use Prim.Native.Nat.{ℕ, _-_}
 use mathlib.Core.Bool.{false}
 use mathlib.Core.List.{List, [], _∷_, _++_, map}
@@ -6,8 +6,14 @@ use lib.ListN.{length, take, replicate}
 use Rattle.rules.specs.declared.Skip.the-variants.{Absent}
 use Rattle.rules.specs.declared.Certificate.{Certificate as StoredCertificate}
 use Rattle.rules.specs.declared.Path.{Path as StoredPath}
+use Rattle.rules.specs.declared.Counters.{Counters as StoredCounters}
 use Rattle.rules.specs.Limits as Limits
 use Rattle.rules.specs.Paths.{Mapping, Certificate, Path}
+use Rattle.rules.specs.Counters.{Counters}
+
+-- the three counters
+abbrev pub counted : StoredCounters → Counters
+counted k = record { explicit = k .explicit; mapping = k .mapping; any = k .any }
 
 -- issuers and subjects side by side
 unfoldable pub pairs : List ℕ → List ℕ → List Mapping

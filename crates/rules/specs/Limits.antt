@@ -17,6 +17,10 @@ table = certificates * listed + (certificates - 1) * listed
 abbrev pub depths : ℕ
 depths = suc certificates
 
+-- the counters explicit, mapping and any, a place for each
+abbrev pub counters : ℕ
+counters = 3
+
 -- the longest sheet in bits: the head with its user policies, and each certificate with policies, pairs and three skip values
 abbrev pub sheet-bits : ℕ
 sheet-bits = 4 + 4 + 3 + 5 + 16 * listed + certificates * (1 + 1 + 5 + 16 * listed + 1 + 5 + 32 * listed + 3 * (1 + 8))

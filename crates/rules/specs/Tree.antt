@@ -6,7 +6,7 @@ use lib.Dec.{eqb}
 use lib.ListN.{length}
 use Rattle.rules.specs.Sets.{pick, _∈_, select, empty, distinct, ascending}
 use Rattle.rules.specs.Paths.{Path, Certificate, any, listed, issuers, subjects}
-use Rattle.rules.specs.Counters.{Counters, at-start, after, at-end}
+use Rattle.rules.specs.Counters.{Counters, all-zero, at-start, after, at-end}
 use Rattle.rules.specs.Answers.{Answer, failed, maps-any, any-allowed}
 use Rattle.rules.specs.Numbers as Numbers
 
@@ -170,7 +170,7 @@ unfoldable pub test-9 : Bool → Certificate → Bool
 unfolding maps-any
 test-9 last c = not last && maps-any c
 
--- After certificate n, d being n-1: the counts and the authority set of the final tree; the intersection, "unless the user list is any-policy"; the user set, "the policies other than anyPolicy then directly under anyPolicy, or the authority set if the user list is any-policy". "The verdict is 10 at n if explicit_policy is 0 and no tree is left, else 0."
+-- After certificate n, d being n-1: the counts and the authority set of the final tree; the intersection, "unless the user list is any-policy"; the user set, "the policies other than anyPolicy then directly under anyPolicy, or the authority set if the user list is any-policy". "The verdict is 10 at n if explicit_policy is 0 and no tree is left, else 0." k has the counters "after the end rules".
 unfoldable pub conclude : Path → Counters → ℕ → Forest → Answer
 unfolding pick gone intersected under-any ascending authority-of counts-to _∈_
 conclude p k d t =
@@ -183,16 +183,17 @@ conclude p k d t =
       counts = counts-to (suc d) 0 t;
       authority = authority;
       user = pick (any ∈ p .user-list) authority (ascending (under-any false left));
+      counters = k;
     }
 
--- certificate by certificate, d being i-1, with three counters of its own. A path with no certificate is refused.
+-- certificate by certificate, d being i-1, with three counters of its own, k, as they stand "before test 8 or 9 fails". A path with no certificate is refused.
 unfoldable pub run : Path → ℕ → List Certificate → Counters → Forest → Answer
-unfolding pick add-policies apply-mappings conclude empty failed test-8 test-9 after at-end
-run p d [] k t = failed Numbers.wrong-count 0
+unfolding pick add-policies apply-mappings conclude empty failed all-zero test-8 test-9 after at-end
+run p d [] k t = failed Numbers.wrong-count 0 all-zero
 run p d (c ∷ cs) k t =
     let h = add-policies (empty cs) k d c t in
-    pick (test-8 k h) (failed Numbers.no-graph (suc d))
-    (pick (test-9 (empty cs) c) (failed Numbers.any-mapped (suc d))
+    pick (test-8 k h) (failed Numbers.no-graph (suc d) k)
+    (pick (test-9 (empty cs) c) (failed Numbers.any-mapped (suc d) k)
     (pick (empty cs) (conclude p (at-end c k) d h) (run p (suc d) cs (after c k) (apply-mappings k d c h))))
 
 -- the answer of RFC 5280's tree to a path

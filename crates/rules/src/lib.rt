@@ -14,6 +14,9 @@ pub const TABLE: usize = CERTIFICATES * LISTED + (CERTIFICATES - 1) * LISTED;
 // The depths of the graph, 0 to the last certificate's.
 pub const DEPTHS: usize = CERTIFICATES + 1;
 
+// The places of the three counters.
+pub const COUNTERS: usize = 3;
+
 // The bits of the longest sheet: the head with its user policies, and each certificate.
 pub const SHEET_BITS: usize = 4
     + 4
@@ -91,11 +94,20 @@ pub struct Path {
     pub certificates: [Certificate; CERTIFICATES],
 }
 
-// What the judge says beside the two tables: a number of document 01's table, the certificate named, and the depth counts.
+// The counters explicit_policy, policy_mapping and inhibit_anyPolicy.
+pub struct Counters {
+    pub explicit: u16,
+    pub mapping: u16,
+    pub any: u16,
+}
+
+// What the judge says beside the two tables: a number of document 01's table, the certificate named, the depth counts, and the
+// counters as they stood when the verdict was reached, all zero after a refusal.
 pub struct Answer {
     pub number: u8,
     pub place: u8,
     pub counts: [u16; DEPTHS],
+    pub counters: Counters,
 }
 
 // What the reader answers: a number, and the path, all cleared on refusal.

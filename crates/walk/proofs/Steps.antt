@@ -1,5 +1,5 @@
 -- The walk before certificate i + 1: what the rest of the model's walk gives is its judgement of the whole path, and the store is zero from there on.
-use Prim.Native.Nat.{ℕ, suc, pred, _+_, _-_, _*_, _≤_, _<_}
+use Prim.Native.Nat.{ℕ, suc, _+_, _-_, _*_, _≤_, _<_}
 use native.Mathlib.Omega.{arith}
 use native.Mathlib.Nat.{suc-mul, mul-le-mul-right}
 use mathlib.Core.Bool.{Bool, true, false, _&&_}
@@ -13,13 +13,13 @@ use borrow.Rule.Slice.PartMut.{putMid}
 use Rattle.rules.specs.Numbers as Numbers
 use Rattle.rules.specs.Sets.{pick, _∈_, empty, ascending}
 use Rattle.rules.specs.Paths.{Path, Certificate, any}
-use Rattle.rules.specs.Counters.{Counters, at-start, after, zeroed, at-end}
+use Rattle.rules.specs.Counters.{Counters, at-start, after, at-end}
+use Rattle.rules.specs.Layout.{counted}
 use Rattle.rules.specs.Answers.{Answer, failed}
 use Rattle.rules.specs.Graph.{test-9}
 use Rattle.laws.proofs.Sets.{by-cases, pick-yes, pick-no, sorted-ascending, sorted-same, mem-ascending, or-false}
 use Rattle.levels.proofs.Levels.{Level, Step, none, new-level, mapped, expected, conclude, run, judged}
-use Rattle.counters.specs.declared.Counters.{Counters as StoredCounters}
-use Rattle.counters.specs.Counted.{counted}
+use Rattle.rules.specs.declared.Counters.{Counters as StoredCounters}
 use Rattle.names.specs.Names.{place}
 use Rattle.names.specs.Places.{at}
 use Rattle.record.specs.Record.{issued, subjected}
@@ -43,13 +43,13 @@ use Rattle.certificate.proofs.Tests.{allowed-same, fault-same}
 
 -- the model's steps
 
-fault-pick : (s t : Bool) (j : ℕ) (X : Answer)
-    → pick s (failed Numbers.no-graph j) (pick t (failed Numbers.any-mapped j) X)
-    ≡ pick (eqb (pick s Numbers.no-graph (pick t Numbers.any-mapped 0)) 0) X (failed (pick s Numbers.no-graph (pick t Numbers.any-mapped 0)) j)
+fault-pick : (s t : Bool) (j : ℕ) (k : Counters) (X : Answer)
+    → pick s (failed Numbers.no-graph j k) (pick t (failed Numbers.any-mapped j k) X)
+    ≡ pick (eqb (pick s Numbers.no-graph (pick t Numbers.any-mapped 0)) 0) X (failed (pick s Numbers.no-graph (pick t Numbers.any-mapped 0)) j k)
 unfolding pick
-fault-pick true t j X = refl
-fault-pick false true j X = refl
-fault-pick false false j X = refl
+fault-pick true t j k X = refl
+fault-pick false true j k X = refl
+fault-pick false false j k X = refl
 
 module _ (P : Path) (j : ℕ) (c : Certificate) (cs : List Certificate) (k : Counters) (E : List ℕ) (a : Bool) (steps : List Step) where
   -- what follows where certificate j, the last one or not, passes both tests
@@ -62,15 +62,11 @@ module _ (P : Path) (j : ℕ) (c : Certificate) (cs : List Certificate) (k : Cou
   abbrev pub turn : Bool → Answer
   turn last =
       let f = pick (eqb (k .explicit) 0 && none (new-level last k c E a)) Numbers.no-graph (pick (test-9 last c) Numbers.any-mapped 0) in
-      pick (eqb f 0) (passed last) (failed f j)
+      pick (eqb f 0) (passed last) (failed f j k)
 
   run-cons : run P j (c ∷ cs) k E a steps ≡ turn (empty cs)
   unfolding run
-  run-cons = fault-pick (eqb (k .explicit) 0 && none (new-level (empty cs) k c E a)) (test-9 (empty cs) c) j _
-
-pub conclude-explicit : (P : Path) (k : Counters) (L : Level) (steps : List Step) → conclude P k L steps ≡ conclude P (record { explicit = k .explicit; mapping = 0; any = 0 }) L steps
-unfolding conclude
-conclude-explicit P k L steps = refl
+  run-cons = fault-pick (eqb (k .explicit) 0 && none (new-level (empty cs) k c E a)) (test-9 (empty cs) c) j k _
 
 pub record Walking (rec names wanted store : List ℕ) (any-above : Bool) (k : StoredCounters) (i : ℕ) : Type 0 where
   pub some : i < at rec 0
@@ -191,13 +187,13 @@ module _ {rec starts names : List ℕ} (N : Numbered rec starts names) where
         fault-same names (N .named) here (held .policies) (held .pairs) last (k .explicit) (new last) (new-length last) (new-small last)
         ∙ ap (λ L. pick (eqb (k .explicit) 0 && none L) Numbers.no-graph (pick (test-9 last named) Numbers.any-mapped 0)) (new-is last)
 
-    turn-by : (last : Bool) {f : ℕ} → empty later ≡ last → f ≡ failing last → judged P ≡ pick (eqb f 0) (passing last) (failed f (suc i))
+    turn-by : (last : Bool) {f : ℕ} → empty later ≡ last → f ≡ failing last → judged P ≡ pick (eqb f 0) (passing last) (failed f (suc i) (counted k))
     turn-by last {f} e h =
         g .rest
         ∙ ap (λ cs. run P (suc i) cs (counted k) E a so-far) (certificates-from N i (g .some))
         ∙ run-cons P (suc i) named later (counted k) E a so-far
         ∙ ap (turn P (suc i) named later (counted k) E a so-far) e
-        ∙ ap (λ v. pick (eqb v 0) (passing last) (failed v (suc i))) (sym (h ∙ failing-is last))
+        ∙ ap (λ v. pick (eqb v 0) (passing last) (failed v (suc i) (counted k))) (sym (h ∙ failing-is last))
 
     -- what the code has at hand: r for the row, j for the certificate's place
     module _ {r : List ℕ} {j : ℕ} (same-row : r ≡ row store (length names) i) (same-place : j ≡ at starts i) where
@@ -217,9 +213,9 @@ module _ {rec starts names : List ℕ} (N : Numbered rec starts names) where
       unfolding after certificate-map
       after-at = ap (λ j. after (certificate-at rec j) (counted k)) same-place
 
-      pub end-at : zeroed (certificate-at rec j .require-explicit) (pred (k .explicit)) ≡ at-end named (counted k) .explicit
+      pub end-at : at-end (certificate-at rec j) (counted k) ≡ at-end named (counted k)
       unfolding at-end certificate-map
-      end-at = ap (λ j. zeroed (certificate-at rec j .require-explicit) (pred (k .explicit))) same-place
+      end-at = ap (λ j. at-end (certificate-at rec j) (counted k)) same-place
 
       pub held-at : HeldAt rec (length r) j
       held-at = subst⁻¹ (λ n. HeldAt rec n j) (ap length same-row ∙ row-length) (subst⁻¹ (HeldAt rec (length names)) same-place (N .held i (g .some)))
@@ -229,8 +225,8 @@ module _ {rec starts names : List ℕ} (N : Numbered rec starts names) where
       more-after : empty later ≡ false
       more-after = empty-length later ∙ ne-eqb (length later) 0 (λ e. omega (arith, length-drop (suc i) (P .certificates), certificates-many names rec))
 
-      pub walk-fails : (f ≡ 0 → ⊥) → judged P ≡ failed f (suc i)
-      walk-fails ne = turn-by false more-after h ∙ pick-no (passing false) (failed f (suc i)) (ne-eqb f 0 ne)
+      pub walk-fails : (f ≡ 0 → ⊥) → judged P ≡ failed f (suc i) (counted k)
+      walk-fails ne = turn-by false more-after h ∙ pick-no (passing false) (failed f (suc i) (counted k)) (ne-eqb f 0 ne)
 
       -- its row after its mappings, and what its nodes then expect
       abbrev pub mapped-row : List ℕ
@@ -262,7 +258,7 @@ module _ {rec starts names : List ℕ} (N : Numbered rec starts names) where
       next-store = putMid (i * length names) (length names) store mapped-row
 
       walk-on : f ≡ 0 → judged P ≡ passing false
-      walk-on e = turn-by false more-after h ∙ pick-yes (passing false) (failed f (suc i)) (eq-eqb f 0 e)
+      walk-on e = turn-by false more-after h ∙ pick-yes (passing false) (failed f (suc i) (counted k)) (eq-eqb f 0 e)
 
       pub walk-next : {k' : StoredCounters} → f ≡ 0 → counted k' ≡ after named (counted k) → Walking rec names next-wanted next-store (eqb (at mapped-row 0) 1) k' (suc i)
       unfolding pick
@@ -292,21 +288,24 @@ module _ {rec starts names : List ℕ} (N : Numbered rec starts names) where
       pub last-small : Small last-store
       last-small = small-put store (new true) (i * length names) (length names) (g .small) (new-small true)
 
-      concluded : (explicit : ℕ) → explicit ≡ at-end named (counted k) .explicit → conclude P (at-end named (counted k)) (new-level true (counted k) named E a) so-far ≡ concluded-of rec names last-store explicit
+      concluded : (C : Counters) → C ≡ at-end named (counted k) → conclude P (at-end named (counted k)) (new-level true (counted k) named E a) so-far ≡ concluded-of rec names last-store C
       unfolding concluded-of
-      concluded explicit x =
-          conclude-explicit P (at-end named (counted k)) (new-level true (counted k) named E a) so-far
-          ∙ (λ d. conclude P (record { explicit = sym x d; mapping = 0; any = 0 }) (sym (ap (level-of names) (row-put store (new true) (length names) i row-room (new-length true)) ∙ new-is true) d) (sym (steps-before-put names (P .certificates) store (new true) i row-room (new-length true) i (omega arith)) d))
-          ∙ ap (λ j. conclude P (record { explicit = explicit; mapping = 0; any = 0 }) (level-of names (row last-store (length names) j)) (steps-of names (P .certificates) last-store j)) (sym number)
+      concluded C x =
+          (λ d. conclude P (sym x d) (sym (ap (level-of names) (row-put store (new true) (length names) i row-room (new-length true)) ∙ new-is true) d) (sym (steps-before-put names (P .certificates) store (new true) i row-room (new-length true) i (omega arith)) d))
+          ∙ ap (λ j. conclude P C (level-of names (row last-store (length names) j)) (steps-of names (P .certificates) last-store j)) (sym number)
 
-      pub walk-ends : {w : Reached} → w .fault ≡ failing true → w .place ≡ suc i → w .explicit ≡ at-end named (counted k) .explicit → judged P ≡ answer-of rec names last-store w
+      pub walk-ends : {w : Reached} → w .fault ≡ failing true → w .place ≡ suc i → counted (w .counters) ≡ pick (eqb (w .fault) 0) (at-end named (counted k)) (counted k) → judged P ≡ answer-of rec names last-store w
       unfolding answer-of pick
-      walk-ends {w} h q x = turn-by true none-after h ∙ λ d. pick (eqb (w .fault) 0) (concluded (w .explicit) x d) (failed (w .fault) (sym q d))
+      walk-ends {w} h q x = turn-by true none-after h ∙ ends (eqb (w .fault) 0) x
+        where
+          ends : (b : Bool) → counted (w .counters) ≡ pick b (at-end named (counted k)) (counted k) → pick b (passing true) (failed (w .fault) (suc i) (counted k)) ≡ pick b (concluded-of rec names last-store (counted (w .counters))) (failed (w .fault) (w .place) (counted (w .counters)))
+          ends true x = concluded (counted (w .counters)) x
+          ends false x = λ d. failed (w .fault) (sym q d) (sym x d)
 
-pub answer-fails : (rec names store : List ℕ) (w : Reached) → (w .fault ≡ 0 → ⊥) → answer-of rec names store w ≡ failed (w .fault) (w .place)
+pub answer-fails : (rec names store : List ℕ) (w : Reached) → (w .fault ≡ 0 → ⊥) → answer-of rec names store w ≡ failed (w .fault) (w .place) (counted (w .counters))
 unfolding answer-of
-answer-fails rec names store w ne = pick-no (concluded-of rec names store (w .explicit)) (failed (w .fault) (w .place)) (ne-eqb (w .fault) 0 ne)
+answer-fails rec names store w ne = pick-no (concluded-of rec names store (counted (w .counters))) (failed (w .fault) (w .place) (counted (w .counters))) (ne-eqb (w .fault) 0 ne)
 
-pub answer-concludes : (rec names store : List ℕ) (w : Reached) → w .fault ≡ 0 → answer-of rec names store w ≡ concluded-of rec names store (w .explicit)
+pub answer-concludes : (rec names store : List ℕ) (w : Reached) → w .fault ≡ 0 → answer-of rec names store w ≡ concluded-of rec names store (counted (w .counters))
 unfolding answer-of
-answer-concludes rec names store w e = pick-yes (concluded-of rec names store (w .explicit)) (failed (w .fault) (w .place)) (eq-eqb (w .fault) 0 e)
+answer-concludes rec names store w e = pick-yes (concluded-of rec names store (counted (w .counters))) (failed (w .fault) (w .place) (counted (w .counters))) (eq-eqb (w .fault) 0 e)

@@ -5,7 +5,7 @@ ghost use lib.ListN.{length};
 ghost use Rattle.rules.specs.Limits as Limits;
 ghost use Rattle.rules.specs.Counters as rule;
 ghost use Rattle.levels.proofs.Levels as Levels;
-ghost use Rattle.counters.specs.Counted.{counted};
+ghost use Rattle.rules.specs.Layout.{counted};
 ghost use Rattle.names.specs.Places.{at};
 ghost use Rattle.record.specs.Record.{head-places};
 ghost use Rattle.record.specs.Unpacked.{unpacked};
@@ -17,26 +17,25 @@ ghost use Rattle.walk.specs.Walking.{answer-of};
 use certificate::enter;
 use certificate::lower;
 use certificate::pass;
-use counters::Counters;
-use counters::explicit_at_end;
+use certificate::settle;
 use counters::start;
 use names::wide;
 use record::ANY_INHIBIT;
 use record::EXPLICIT_POLICY;
 use record::MAPPING_INHIBIT;
 use record::N;
-use record::REQUIRE_EXPLICIT;
 use record::count_at;
 use record::flag_at;
 use record::number_at;
 use rows::ANY;
 use rows::INHERITED;
+use rules::Counters;
 
-// A failed verdict and the certificate named; or, where `fault` is 0, explicit_policy at the end.
+// A failed verdict, the certificate named and the counters as they stood; or, where `fault` is 0, the counters at the end.
 pub struct Reached {
     pub fault: u8,
     pub place: u8,
-    pub explicit: usize,
+    pub counters: Counters,
 }
 
 // The counters at the start.
@@ -49,7 +48,7 @@ fn begin(rec: &[u16]) -> Counters
         flag_at(rec, 0, EXPLICIT_POLICY),
         flag_at(rec, 0, MAPPING_INHIBIT),
         flag_at(rec, 0, ANY_INHIBIT),
-        count_at(rec, 0, N),
+        number_at(rec, 0, N),
     )
 }
 
@@ -82,25 +81,26 @@ pub fn walk(
         let a = i * u;
         let b = a + u;
         let fault = pass(rec, at, k, any_above, expected, &mut store[a..b]);
+        let next = lower(rec, at, k);
         if fault != 0 {
             return Reached {
                 fault,
                 place: (i + 1) as u8,
-                explicit: 0,
+                counters: k,
             };
         }
         any_above = store[a] == INHERITED;
-        k = lower(rec, at, k);
+        k = next;
         i += 1;
     }
     let at = wide(starts[i]);
     let a = i * u;
     let b = a + u;
     let fault = enter(rec, at, true, k, any_above, expected, &mut store[a..b]);
-    let explicit = explicit_at_end(number_at(rec, at, REQUIRE_EXPLICIT), k.explicit);
+    let counters = settle(rec, at, fault, k);
     Reached {
         fault,
         place: (i + 1) as u8,
-        explicit,
+        counters,
     }
 }

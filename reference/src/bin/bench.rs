@@ -9,7 +9,7 @@ use std::fmt::Debug;
 use std::hint::black_box;
 use std::time::Instant;
 
-use reference::answer::{DEPTHS, PLACES};
+use reference::answer::{COUNTERS, DEPTHS, PLACES};
 use reference::beside::{Judges, JUDGE_RECORD, JUDGE_SHEET};
 use reference::draft::{Draft, Identifier};
 use reference::everyday::{self, Everyday};
@@ -47,37 +47,44 @@ struct Tables {
     authority: [u16; PLACES],
     user: [u16; PLACES],
     counts: [u16; DEPTHS],
+    counters: [u16; COUNTERS],
 }
 
 impl Tables {
     fn new() -> Tables {
-        Tables { authority: [0; PLACES], user: [0; PLACES], counts: [0; DEPTHS] }
+        Tables {
+            authority: [0; PLACES],
+            user: [0; PLACES],
+            counts: [0; DEPTHS],
+            counters: [0; COUNTERS],
+        }
     }
 
     /// The plain judge judges once.
     fn plain<I>(&mut self, judges: &Judges<I>, input: &[I]) -> Verdict {
         let answer = (judges.plain)(black_box(input), &mut self.authority, &mut self.user);
-        self.counts = answer.counts;
+        (self.counts, self.counters) = (answer.counts, answer.counters);
         black_box(&*self);
         (answer.number, answer.place)
     }
 
     /// The proved judge judges once.
     fn proved<I>(&mut self, judges: &Judges<I>, input: &[I]) -> Verdict {
-        let Tables { authority, user, counts } = self;
-        let judged = (judges.proved)(black_box(input), authority, user, counts);
+        let Tables { authority, user, counts, counters } = self;
+        let judged = (judges.proved)(black_box(input), authority, user, counts, counters);
         black_box(&*self);
         (judged.number, judged.place)
     }
 
     /// The proved judge judges once, a sheet that comes in pieces.
     fn in_pieces(&mut self, state: &mut [u8; STATE], pieces: &[&[u8]]) -> Verdict {
-        let Tables { authority, user, counts } = self;
+        let Tables { authority, user, counts, counters } = self;
         judge_pieces::fresh(state);
         for piece in black_box(pieces) {
             judge_pieces::feed(state, piece);
         }
-        let Judged { number, place } = judge_pieces::finish(state, authority, user, counts);
+        let Judged { number, place } =
+            judge_pieces::finish(state, authority, user, counts, counters);
         black_box((&*self, &*state));
         (number, place)
     }
@@ -91,7 +98,7 @@ struct Times {
 }
 
 /// Times both judges on one sheet or record of n certificates. Both give the
-/// verdict, with the same counts and the same tables, and where it is 0 no
+/// verdict, with the same counts, counters and tables, and where it is 0 no
 /// depth count to n is 0.
 fn judging<I>(judges: &Judges<I>, input: &[I], n: usize, verdict: Verdict) -> Times {
     let (mut plain, mut proved) = (Tables::new(), Tables::new());

@@ -14,10 +14,11 @@ use reference::extensions::{self, ANSWERS};
 use reference::path::{Path, MAX_CERTIFICATES};
 use reference::random::{self, Random, FULL_KINDS};
 use reference::random_extensions::{self, Input, Registers};
+use reference::recount::{self, Kinds, KINDS};
 use reference::{known, register, sheet, tree};
 
-/// The least number of random sheets that each answer must get, and of those
-/// answered 3 that each cause must have.
+/// The least number of random sheets that each answer must get, of those answered 3
+/// that each cause must have, and of each kind of counters.
 const OFTEN: usize = 500;
 
 /// The least number of random extensions that each answer must get.
@@ -30,6 +31,7 @@ struct Tally {
     failed: usize,
     answers: [usize; NUMBERS],
     causes: Causes,
+    kinds: Kinds,
     trees: usize,
     over_cap: usize,
     most_nodes_at_a_depth: u16,
@@ -61,12 +63,20 @@ fn counts_within_bound(path: &Path, answer: &Answer) -> bool {
     })
 }
 
-/// Demand 3: the tree gives the graph's whole answer.
+/// What the counters of an answer must show; the path, if one was read.
+fn check_counters(tally: &mut Tally, path: Option<&Path>, sheet: &[u8], answer: &Answer) {
+    let broken = recount::broken(path, answer);
+    tally.check(broken.is_none(), &format!("counters: {}", broken.unwrap_or_default()), sheet);
+}
+
+/// Demand 3: the tree gives the graph's whole answer, the counters too.
 fn check_path(tally: &mut Tally, path: &Path, sheet: &[u8], answer: &Answer) {
+    tally.kinds.count(path, answer);
     match tree::judge(path, tree::CAP) {
         Some(by_tree) => {
             tally.trees += 1;
             tally.check(by_tree == *answer, "graph and tree differ", sheet);
+            check_counters(tally, Some(path), sheet, &by_tree);
         }
         None => tally.over_cap += 1,
     }
@@ -93,7 +103,9 @@ fn check_sheet(tally: &mut Tally, random: &mut Random, sheet: &[u8]) {
     if let Some(agrees) = causes::agrees(sheet, answer.number) {
         tally.check(agrees, "the sheet has not the cause of its answer", sheet);
     }
-    match sheet::read(sheet) {
+    let read = sheet::read(sheet);
+    check_counters(tally, read.as_ref().ok(), sheet, &answer);
+    match read {
         Ok(path) if answer.number != sheet::TOO_SHORT => {
             tally.check(sheet::write(&path) == sheet, "reading and writing", sheet);
             let again = judge_path(&path, &mut authority, &mut user);
@@ -206,10 +218,10 @@ fn check_made(tally: &mut Tally, random: &mut Random) {
     }
 }
 
-/// Random sheets, of which each answer and each cause of answer 3 must come up
-/// often, and random paths.
+/// Random sheets, of which each answer, each cause of answer 3 and each kind of
+/// counters must come up often, and random paths.
 fn check_random(tally: &mut Tally, random: &mut Random, sheets: u64) {
-    tally.answers = [0; NUMBERS];
+    (tally.answers, tally.kinds) = ([0; NUMBERS], Kinds::default());
     for _ in 0..sheets {
         let sheet = random::sheet(random);
         check_sheet(tally, random, &sheet);
@@ -227,6 +239,10 @@ fn check_random(tally: &mut Tally, random: &mut Random, sheets: u64) {
     let Causes { no_certificate, empty_list } = tally.causes;
     println!("answer 3 for n 0: {no_certificate}, for a present count of 0: {empty_list}");
     tally.check(no_certificate.min(empty_list) >= OFTEN, "a cause of 3 is too rare", &[]);
+    for ((kind, _), times) in KINDS.into_iter().zip(tally.kinds.times) {
+        println!("counters of {kind}: {times}");
+        tally.check(times >= OFTEN, &format!("{kind} is too rare"), &[]);
+    }
 }
 
 fn main() -> ExitCode {

@@ -5,7 +5,7 @@
 
 use std::process::ExitCode;
 
-use reference::answer::{Answer, DEPTHS, PLACES};
+use reference::answer::{Answer, COUNTERS, DEPTHS, PLACES};
 use reference::extensions::{self, ANSWERS};
 use reference::harm::HARMS;
 use reference::judge::{self, Judged, Judging, Writing, Written};
@@ -63,10 +63,11 @@ fn paths() -> Vec<(String, Path)> {
 
 /// Measures a function that judges.
 fn judging<I: Sync>(input: &[I], judge: Judging<I>) -> usize {
-    let (mut authority, mut user, mut counts) = ([0; PLACES], [0; PLACES], [0; DEPTHS]);
+    let (mut authority, mut user) = ([0; PLACES], [0; PLACES]);
+    let (mut counts, mut counters) = ([0; DEPTHS], [0; COUNTERS]);
     let mut judged = Judged { number: sheet::TOO_SHORT, place: 0 };
     let bytes = stack::overwritten(&mut || {
-        judged = judge(input, &mut authority, &mut user, &mut counts);
+        judged = judge(input, &mut authority, &mut user, &mut counts, &mut counters);
     });
     assert!(!Answer::bare(judged.number, judged.place).is_refusal());
     bytes
@@ -108,11 +109,13 @@ fn keeping(old: [u8; STATE], change: impl Fn(&mut [u8]) -> u32 + Sync) -> usize 
 fn finishing(path: &Path) -> usize {
     let old = state_of(path);
     let mut state = old;
-    let (mut authority, mut user, mut counts) = ([0; PLACES], [0; PLACES], [0; DEPTHS]);
+    let (mut authority, mut user) = ([0; PLACES], [0; PLACES]);
+    let (mut counts, mut counters) = ([0; DEPTHS], [0; COUNTERS]);
     let mut judged = Judged { number: sheet::TOO_SHORT, place: 0 };
     let bytes = stack::overwritten(&mut || {
         state.copy_from_slice(&old);
-        judged = judge_pieces::finish(&mut state, &mut authority, &mut user, &mut counts);
+        judged =
+            judge_pieces::finish(&mut state, &mut authority, &mut user, &mut counts, &mut counters);
     });
     assert!(!Answer::bare(judged.number, judged.place).is_refusal());
     bytes

@@ -3,6 +3,7 @@ use mathlib.Core.Path.{_≡_, sym, ap, _∙_}
 use native.Mathlib.Omega.{arith}
 use lib.ListN.{length}
 use borrow.Author.Needs.{needs}
+use Rattle.rules.specs.Layout.{counted}
 use Rattle.rules.specs.Judge.{verdict}
 use Rattle.levels.proofs.Levels.{judged}
 use Rattle.places.specs.Mapped.{path-named}
@@ -14,7 +15,7 @@ use Rattle.arrays.proofs.judge_rows.Tie as tie
 abbrev start : tie.After-walk → tie.Start
 start w = w .before .before .before .before .before .before .before .before .before .before .before .before
 
-concludes : (c : tie.Else1) → judged (path-named (start (c .before .before .before .before .before .before) .args .names .now) (start (c .before .before .before .before .before .before) .args .rec .now)) ≡ concluded-of (start (c .before .before .before .before .before .before) .args .rec .now) (start (c .before .before .before .before .before .before) .args .names .now) (c .before .before .before .before .before .before .walk .last .1 .1 .1 .1 .0) (c .before .before .before .before .before .before .walk .result .explicit)
+concludes : (c : tie.Else1) → judged (path-named (start (c .before .before .before .before .before .before) .args .names .now) (start (c .before .before .before .before .before .before) .args .rec .now)) ≡ concluded-of (start (c .before .before .before .before .before .before) .args .rec .now) (start (c .before .before .before .before .before .before) .args .names .now) (c .before .before .before .before .before .before .walk .last .1 .1 .1 .1 .0) (counted (c .before .before .before .before .before .before .walk .result .counters))
 concludes c = let w = c .before .before .before .before .before .before in w .walk .ensures .0 ∙ answer-concludes _ _ _ _ (c .if1 .left)
 
 pub judge-rows-spec : {M : Type 1} → statement M

@@ -4,7 +4,8 @@ use native.Mathlib.Omega.{arith}
 use borrow.Author.Needs.{needs}
 use Rattle.rules.specs.Counters.{after}
 use Rattle.record.specs.Unpacked.{skip-of}
-use Rattle.counters.specs.Counted.{counted, passed}
+use Rattle.rules.specs.Layout.{counted}
+use Rattle.counters.specs.Counted.{passed}
 use Rattle.certificate.proofs.Parts.{self-issued-is, require-explicit-is, inhibit-mapping-is, inhibit-any-is, head-room}
 use Rattle.certificate.proofs.lower.Statement.{statement}
 use Rattle.certificate.proofs.lower.Tie as tie

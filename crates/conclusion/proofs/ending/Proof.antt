@@ -14,6 +14,6 @@ ending-spec =
     tie.close
     (tie.spec
     (λ c. search needs)
-    (λ c. sym (ended-yes _ _ (and-in (eq-eqb _ 0 (c .before .if1 .taken)) (eq-eqb _ 0 (c .if2 .taken)))))
-    (λ c. sym (ended-no _ _ (ap (λ b. eqb (c .before .before .args .explicit) 0 && b) (ne-eqb _ 0 (c .if2 .left)) ∙ and-false (eqb (c .before .before .args .explicit) 0))))
-    (λ c. sym (ended-no _ _ (ap (λ b. b && eqb (c .before .args .users) 0) (ne-eqb _ 0 (c .if1 .left))))))
+    (λ c. sym (ended-yes _ _ _ (and-in (eq-eqb _ 0 (c .before .if1 .taken)) (eq-eqb _ 0 (c .if2 .taken)))))
+    (λ c. sym (ended-no _ _ _ (ap (λ b. eqb (c .before .before .before .args .counters .explicit) 0 && b) (ne-eqb _ 0 (c .if2 .left)) ∙ and-false (eqb (c .before .before .before .args .counters .explicit) 0))))
+    (λ c. sym (ended-no _ _ _ (ap (λ b. b && eqb (c .before .before .args .users) 0) (ne-eqb _ 0 (c .if1 .left))))))

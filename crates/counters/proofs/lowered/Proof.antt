@@ -11,6 +11,5 @@ lowered-spec =
     (tie.spec
     (λ c. sym (lowered-absent _ _ (c .if1 .taken)))
     (λ c. search needs)
-    (λ c. search needs)
     (λ c. sym (lowered-below _ _ (c .before .if1 .left) (c .if2 .taken)))
     (λ c. sym (lowered-above _ _ (c .before .if1 .left) (c .if2 .left))))

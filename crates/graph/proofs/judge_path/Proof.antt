@@ -3,7 +3,8 @@ use mathlib.Core.Path.{sym, ap, _∙_}
 use denote.Ref.{now}
 use Rattle.rules.specs.Graph as Graph
 use Rattle.rules.specs.Judge.{refusal}
-use Rattle.graph.proofs.Laws.{refused-is, short-authority, short-user, faulty, sound}
+use Rattle.demands.proofs.Outcomes.{refused-is}
+use Rattle.graph.proofs.Laws.{short-authority, short-user, faulty, sound}
 use borrow.Author.Needs.{needs}
 use Rattle.graph.proofs.judge_path.Statement.{statement}
 use Rattle.graph.proofs.judge_path.Tie as tie
@@ -12,13 +13,13 @@ refused-requires : tie.Need-refused-requires
 refused-requires c κs = search needs
 
 returns : tie.Need-returns
-returns c = refused-is _ _ _ (c .refused .ensures) ∙ sym (short-authority Graph.judged _ _ _ (c .before .if1 .taken))
+returns c = refused-is _ _ _ _ (c .refused .ensures) ∙ sym (short-authority Graph.judged _ _ _ (c .before .if1 .taken))
 
 refused-requires-2 : tie.Need-refused-requires-2
 refused-requires-2 c κs = search needs
 
 returns-2 : tie.Need-returns-2
-returns-2 c = refused-is _ _ _ (c .refused2 .ensures) ∙ sym (short-user Graph.judged _ _ _ (c .before .if2 .taken))
+returns-2 c = refused-is _ _ _ _ (c .refused2 .ensures) ∙ sym (short-user Graph.judged _ _ _ (c .before .if2 .taken))
 
 path-fault-requires : tie.Need-path-fault-requires
 path-fault-requires c κs = search needs
@@ -30,7 +31,7 @@ returns-3 : tie.Need-returns-3
 returns-3 c =
     let A = now (c .before .before .before .before .before .before .before .args .authority) in
     let U = now (c .before .before .before .before .before .before .before .args .user) in
-    refused-is _ A U (c .refused3 .ensures) ∙ ap (λ k. refusal k A U) (c .before .before .path-fault .ensures)
+    refused-is A U _ _ (c .refused3 .ensures) ∙ ap (λ k. refusal k A U) (c .before .before .path-fault .ensures)
     ∙ sym (faulty Graph.judged _ A U (c .before .before .before .before .if1 .left) (c .before .before .before .if2 .left) (λ z. c .before .if3 .taken (c .before .before .path-fault .ensures ∙ z)))
 
 judge-requires : tie.Need-judge-requires

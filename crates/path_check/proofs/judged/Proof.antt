@@ -41,41 +41,20 @@ slice-aggregate-judge-path-2 c = sym (length-take-le _ _ (c .before .before .bef
 judge-path-requires : tie.Need-judge-path-requires
 judge-path-requires c κs = search needs
 
-slice-aggregate-text : tie.Need-slice-aggregate-text
-slice-aggregate-text c = search needs
-
-text-requires : tie.Need-text-requires
-text-requires c κs = search needs
-
-cast-spaced : tie.Need-cast-spaced
-cast-spaced c = search needs
-
-spaced-requires : tie.Need-spaced-requires
-spaced-requires c κs = search needs
-
-cast-spaced-2 : tie.Need-cast-spaced-2
-cast-spaced-2 c = search needs
-
-spaced-requires-2 : tie.Need-spaced-requires-2
-spaced-requires-2 c κs = search needs
-
-slice-aggregate-counts : tie.Need-slice-aggregate-counts
-slice-aggregate-counts c = search needs
-
-counts-requires : tie.Need-counts-requires
-counts-requires c κs = search needs
+said-requires : tie.Need-said-requires
+said-requires c κs = search needs
 
 table-digest-requires : tie.Need-table-digest-requires
 table-digest-requires c κs = search needs
 
-spaced-requires-3 : tie.Need-spaced-requires-3
-spaced-requires-3 c κs = search needs
+spaced-requires : tie.Need-spaced-requires
+spaced-requires c κs = search needs
 
 table-digest-requires-2 : tie.Need-table-digest-requires-2
 table-digest-requires-2 c κs = search needs
 
-spaced-requires-4 : tie.Need-spaced-requires-4
-spaced-requires-4 c κs = search needs
+spaced-requires-2 : tie.Need-spaced-requires-2
+spaced-requires-2 c κs = search needs
 
 same-length : tie.Need-same-length
 same-length c = search needs
@@ -102,18 +81,11 @@ judged-spec =
     slice-relend-prefix-judge-path-2
     slice-aggregate-judge-path-2
     judge-path-requires
-    slice-aggregate-text
-    text-requires
-    cast-spaced
-    spaced-requires
-    cast-spaced-2
-    spaced-requires-2
-    slice-aggregate-counts
-    counts-requires
+    said-requires
     table-digest-requires
-    spaced-requires-3
+    spaced-requires
     table-digest-requires-2
-    spaced-requires-4
+    spaced-requires-2
     same-length
     same-length-2
     returns)

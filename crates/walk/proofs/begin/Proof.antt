@@ -16,7 +16,7 @@ unfolding at-start unpacked
 returns c =
     let rec = c .before .before .before .before .before .before .args .rec .now in
     c .start .ensures
-    ∙ (λ i. started (c .before .before .before .before .flag-at .ensures i) (c .before .before .before .flag-at2 .ensures i) (c .before .before .flag-at3 .ensures i) ((c .before .count-at .ensures ∙ sym (unpacked-many (at rec 0) (drop (at rec 4) (drop head-places rec)))) i))
+    ∙ (λ i. started (c .before .before .before .before .flag-at .ensures i) (c .before .before .before .flag-at2 .ensures i) (c .before .before .flag-at3 .ensures i) ((c .before .number-at .ensures ∙ sym (unpacked-many (at rec 0) (drop (at rec 4) (drop head-places rec)))) i))
 
 pub begin-spec : {M : Type 1} → statement M
 begin-spec =

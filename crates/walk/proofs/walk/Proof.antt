@@ -1,5 +1,5 @@
 -- `walk` meets its contract: the invariant: Walking, of Steps. The measure is the number of certificates to go.
-use Prim.Native.Nat.{ℕ, suc, pred, _+_, _-_, _*_, _≤_, _<_}
+use Prim.Native.Nat.{ℕ, suc, _+_, _-_, _*_, _≤_, _<_}
 use native.Mathlib.Omega.{arith}
 use native.Mathlib.Numerals.{add-one}
 use mathlib.Core.Bool.{true, false}
@@ -9,11 +9,11 @@ use lib.Dec.{eqb}
 use lib.ListN.{length, length-set, take, drop}
 use borrow.Rule.Slice.PartMut.{putMid}
 use borrow.Author.Needs.{needs}
-use Rattle.rules.specs.Counters.{zeroed}
+use Rattle.rules.specs.Sets.{pick}
+use Rattle.rules.specs.Layout.{counted}
 use Rattle.rules.specs.Answers.{failed}
 use Rattle.names.specs.Places.{at}
 use Rattle.record.specs.Record.{issued, subjected}
-use Rattle.record.specs.Unpacked.{skip-of}
 use Rattle.places.specs.Numbered.{certificate-at, Numbered}
 use Rattle.rows.specs.Row.{expect}
 use Rattle.rows.specs.Read.{Small}
@@ -23,7 +23,6 @@ use Rattle.rows.proofs.Store.{length-put, row-put, row-first}
 use Rattle.walk.specs.declared.Reached.{Reached}
 use Rattle.certificate.specs.Entered.{fault-of}
 use Rattle.walk.specs.Walking.{answer-of}
-use Rattle.certificate.proofs.Parts.{require-explicit-is, head-room}
 use Rattle.walk.proofs.Steps.{Walking, walk-start, row-room, row-length, held-at, failing, failing-at, mapped-row, mapped-at, next-wanted, expect-at, after-at, here, walk-fails, walk-next, walking-same, answer-fails, new, new-at, new-length, end-at, walk-ends, last-small}
 use Rattle.walk.proofs.walk.Statement.{statement}
 use Rattle.walk.proofs.walk.Tie as tie
@@ -119,7 +118,7 @@ any-is p m z =
     ∙ ap (λ x. eqb x 1) (sym (row-first (putMid (i * u) u s (row-left p)) u i (some-name (begun l .args .names .now) (numbered l .named))) ∙ ap (λ r. at r 0) (row-put s (row-left p) u i (room l) (row-long p) ∙ row-is p m z))
 
 -- where the walk goes on, the certificate passed both tests
-passed : (c : tie.Else1 Inv-loop μ-loop) → c .before .before .before .before .before .pass .result ≡ 0
+passed : (c : tie.Else1 Inv-loop μ-loop) → c .before .before .before .before .before .before .pass .result ≡ 0
 passed c = c .if1 .left
 
 -- after certificate n: `enter` has left its row
@@ -151,16 +150,15 @@ end c = omega (arith, c .loop-test .left, count (c .before))
 
 returns-2 : tie.Need-returns-2 Inv-loop μ-loop
 returns-2 c =
-    let e = c .before .before .before .before in
+    let e = c .before .before .before in
     let l = ending e in
     let a = begun l .args in
     let u = length (a .names .now) in
     let stop = end (e .before .before .before .before .before) in
     let same = put-width u (l .loop .i) (l .loop .store) (last-left e) ∙ ap (putMid (l .loop .i * u) u (l .loop .store)) (last-is e) in
-    let skip = ap skip-of (c .before .number-at .ensures) ∙ require-explicit-is (a .rec .now) (e .before .before .before .wide2 .result) in
-    let explicit = c .explicit-at-end .ensures ∙ ap (λ x. zeroed x (pred (l .loop .k .explicit))) skip ∙ end-at (numbered l) (walking l) (same-row l) (place-last e) in
-    let w : Reached = record { fault = e .enter .result; place = l .loop .i + 1; explicit = c .explicit-at-end .result } in
-    (walk-ends (numbered l) (walking l) stop {w = w} (last-fault e) (add-one (l .loop .i)) explicit ∙ ap (λ s. answer-of (a .rec .now) (a .names .now) s w) (sym same), (λ z. subst⁻¹ Small same (last-small (numbered l) (walking l) stop)))
+    let counters = c .settle .ensures ∙ ap (λ x. pick (eqb (e .enter .result) 0) x (counted (l .loop .k))) (end-at (numbered l) (walking l) (same-row l) (place-last e)) in
+    let w : Reached = record { fault = e .enter .result; place = l .loop .i + 1; counters = c .settle .result } in
+    (walk-ends (numbered l) (walking l) stop {w = w} (last-fault e) (add-one (l .loop .i)) counters ∙ ap (λ s. answer-of (a .rec .now) (a .names .now) s w) (sym same), (λ z. subst⁻¹ Small same (last-small (numbered l) (walking l) stop)))
 
 head : (c : tie.Start Inv-loop μ-loop) → 5 ≤ length (c .args .rec .now)
 head c = omega (arith, c .pre .0 .head)
@@ -192,32 +190,32 @@ walk-spec =
     let e = part-row (l .loop .store) (length u) (l .loop .i) in
     let n = ap length e ∙ row-length (numbered l) (walking l) in
     (held-at (numbered l) (walking l) e (c .before .before .wide .ensures), (walking l .wide ∙ sym n, (omega (arith, n, begun l .pre .1 .0), omega (arith, n, some-name u (numbered l .named))))))
-    (λ c. omega (arith, walking (c .before .before .before .before .before .before .before .before .before .before .before) .some, numbered (c .before .before .before .before .before .before .before .before .before .before .before) .most))
-    (λ c. omega (arith, walking (c .before .before .before .before .before .before .before .before .before .before .before) .some, numbered (c .before .before .before .before .before .before .before .before .before .before .before) .most))
-    (λ c.
-    let p = c .before .before .before .before .before in
-    let l = passing p in
-    wanted-long p ∙ l .loop .inv .1 ∙ length-set (begun l .args .expected .now) 0 1)
-    (λ c.
-    let p = c .before .before .before .before .before in
-    put-long (passing p) (row-left p) (row-long p) ∙ passing p .loop .inv .2)
-    (λ c.
-    let p = c .before .before .before .before .before in
-    let l = passing p in
-    (walk-fails (numbered l) (walking l) (more (p .before .before .before .before .before)) (fault-is p) (c .if1 .taken) ∙ ap (failed (p .pass .result)) (sym (add-one (l .loop .i))) ∙ sym (answer-fails _ _ _ _ (c .if1 .taken)), (λ z. absurd (c .if1 .taken z))))
+    (λ c κs. let p = c .before .before .before .before in held-at (numbered (passing p)) (walking (passing p)) (same-row (passing p)) (place p) .stands)
+    (λ c. let l = passing (c .before .before .before .before .before .before) in omega (arith, walking l .some, numbered l .most))
+    (λ c. let l = passing (c .before .before .before .before .before .before) in omega (arith, walking l .some, numbered l .most))
     (λ c.
     let p = c .before .before .before .before .before .before in
     let l = passing p in
+    wanted-long p ∙ l .loop .inv .1 ∙ length-set (begun l .args .expected .now) 0 1)
+    (λ c.
+    let p = c .before .before .before .before .before .before in
+    put-long (passing p) (row-left p) (row-long p) ∙ passing p .loop .inv .2)
+    (λ c.
+    let p = c .before .before .before .before .before .before in
+    let l = passing p in
+    (walk-fails (numbered l) (walking l) (more (p .before .before .before .before .before)) (fault-is p) (c .if1 .taken) ∙ ap (λ j. failed (p .pass .result) j (counted (l .loop .k))) (sym (add-one (l .loop .i))) ∙ sym (answer-fails _ _ _ _ (c .if1 .taken)), (λ z. absurd (c .if1 .taken z))))
+    (λ c.
+    let p = c .before .before .before .before .before .before .before in
+    let l = passing p in
     omega (arith, put-long l (row-left p) (row-long p), room l, some-name (begun l .args .names .now) (numbered l .named)))
-    (λ c κs. held-at (numbered (passing (c .before .before .before .before .before .before))) (walking (passing (c .before .before .before .before .before .before))) (same-row (passing (c .before .before .before .before .before .before))) (place (c .before .before .before .before .before .before)) .stands)
     (λ c. omega (arith, walking (passing (c .before .before .before .before .before .before .before)) .some, numbered (passing (c .before .before .before .before .before .before .before)) .most))
     (λ c. let l = passing (c .before .before .before .before .before .before .before) in omega (arith, count l, walking l .some))
     (λ c.
     let p = c .before .before .before .before .before .before .before in
     let l = passing p in
     let m = more (p .before .before .before .before .before) in
-    let z = passed (c .before .before) in
-    (walking-same (wanted-is p m z) (put-width (length (begun l .args .names .now)) (l .loop .i) (l .loop .store) (row-left p) ∙ ap (putMid (l .loop .i * length (begun l .args .names .now)) (length (begun l .args .names .now)) (l .loop .store)) (row-is p m z)) (any-is p m z) (add-one (l .loop .i)) (walk-next (numbered l) (walking l) m (fault-is p) z (c .lower .ensures ∙ after-at (numbered l) (walking l) (same-row l) (place p))), wanted-long p ∙ l .loop .inv .1, put-long l (row-left p) (row-long p) ∙ l .loop .inv .2))
+    let z = passed (c .before) in
+    (walking-same (wanted-is p m z) (put-width (length (begun l .args .names .now)) (l .loop .i) (l .loop .store) (row-left p) ∙ ap (putMid (l .loop .i * length (begun l .args .names .now)) (length (begun l .args .names .now)) (l .loop .store)) (row-is p m z)) (any-is p m z) (add-one (l .loop .i)) (walk-next (numbered l) (walking l) m (fault-is p) z (c .before .before .lower .ensures ∙ after-at (numbered l) (walking l) (same-row l) (place p))), wanted-long p ∙ l .loop .inv .1, put-long l (row-left p) (row-long p) ∙ l .loop .inv .2))
     (λ c. omega (arith, walking (c .before) .some, numbered (c .before) .most))
     (λ c. fits (c .before .before))
     (λ c κs. search needs)
@@ -231,10 +229,9 @@ walk-spec =
     let u = begun l .args .names .now in
     let n = ap length (same-row l) ∙ row-length (numbered l) (walking l) in
     (held-at (numbered l) (walking l) (same-row l) (c .before .before .wide2 .ensures), (walking l .wide ∙ sym n, omega (arith, n, begun l .pre .1 .0))))
-    (λ c κs. let e = c .before .before in head-room _ _ (held-at (numbered (ending e)) (walking (ending e)) (same-row (ending e)) (place-last e) .stands) 3 (omega arith))
-    (λ c κs. search needs)
-    (λ c. let l = ending (c .before .before .before .before) in omega (arith, walking l .some, numbered l .most))
-    (λ c. let l = ending (c .before .before .before .before) in omega (arith, walking l .some, numbered l .most))
-    (λ c. let l = ending (c .before .before .before .before) in l .loop .inv .1 ∙ length-set (begun l .args .expected .now) 0 1)
-    (λ c. let e = c .before .before .before .before in put-long (ending e) (last-left e) (last-long e) ∙ ending e .loop .inv .2)
+    (λ c κs. let e = c .before .before in held-at (numbered (ending e)) (walking (ending e)) (same-row (ending e)) (place-last e) .stands)
+    (λ c. let l = ending (c .before .before .before) in omega (arith, walking l .some, numbered l .most))
+    (λ c. let l = ending (c .before .before .before) in omega (arith, walking l .some, numbered l .most))
+    (λ c. let l = ending (c .before .before .before) in l .loop .inv .1 ∙ length-set (begun l .args .expected .now) 0 1)
+    (λ c. let e = c .before .before .before in put-long (ending e) (last-left e) (last-long e) ∙ ending e .loop .inv .2)
     returns-2)

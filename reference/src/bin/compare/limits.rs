@@ -1,10 +1,11 @@
 //! The limits, which a sheet's fields cannot break: every n and every count that
 //! they can say.
 
+use reference::lent::ENOUGH;
 use reference::path::{Certificate, Path, MAX_CERTIFICATES, MAX_LIST};
 use reference::sheet;
 
-use crate::run::{Run, ENOUGH};
+use crate::run::Run;
 use crate::DAMAGE_CAP;
 
 /// Two certificates with two policies and a pair each.

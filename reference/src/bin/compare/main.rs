@@ -16,17 +16,19 @@ mod run;
 use std::env;
 use std::process::ExitCode;
 
-use reference::answer::{Answer, DEPTHS, NUMBERS, PLACES};
+use reference::answer::{Answer, COUNTERS, NUMBERS, PLACES};
 use reference::beside::{JUDGE_RECORD, JUDGE_SHEET};
 use reference::causes::Causes;
 use reference::harm::HARMS;
 use reference::known::{self, E_SHEET};
+use reference::lent::{Lengths, ENOUGH, LENT_COUNTERS, TABLES};
 use reference::path::{Path, MAX_CERTIFICATES};
 use reference::random::{self, Full, Random, FULL_KINDS};
+use reference::recount::{Kinds, KINDS};
 use reference::repeats::Likeness;
 use reference::{everyday, record, sheet, tree};
 
-use run::{Judgement, Lengths, Run, BUFFERS, COUNTS, ENOUGH, RECORDS, TABLES};
+use run::{Judgement, Run, BUFFERS, RECORDS};
 
 /// The least number of random sheets, and of records, that each answer must
 /// get.
@@ -40,24 +42,20 @@ pub const MORE: usize = 40;
 const DAMAGE_CAP: usize = 2_000;
 
 impl Run {
-    /// One sheet with tables that suffice, a rewrite, and its record read.
+    /// One sheet with slices that suffice, a rewrite, and its record read.
     pub fn once(&mut self, sheet: &[u8], cap: usize) {
         self.rewrite(sheet, sheet::LONGEST);
         self.read_record(sheet, record::LONGEST);
         let authority = self.random.pick(&TABLES[2..]);
         let user = self.random.pick(&TABLES[2..]);
-        self.judge(sheet, Lengths { authority, user, ..ENOUGH }, cap);
+        let counters = self.random.pick(&LENT_COUNTERS[COUNTERS..]);
+        self.judge(sheet, Lengths { authority, user, counters, ..ENOUGH }, cap);
     }
 
-    /// One sheet with all lengths of tables, counts, buffers and records.
+    /// One sheet with all lengths of tables, counts, counters, buffers and records.
     pub fn all_lengths(&mut self, sheet: &[u8]) {
-        for authority in TABLES {
-            for user in TABLES {
-                self.judge(sheet, Lengths { authority, user, counts: DEPTHS }, tree::CAP);
-            }
-        }
-        for counts in COUNTS {
-            self.judge(sheet, Lengths { counts, ..ENOUGH }, tree::CAP);
+        for lengths in Lengths::all() {
+            self.judge(sheet, lengths, tree::CAP);
         }
         for length in BUFFERS {
             self.rewrite(sheet, length);
@@ -120,22 +118,27 @@ impl Run {
     }
 
     /// Random sheets. Each answer must come up often, and so must a last
-    /// certificate with a mapping that test 9 would not let pass, and each cause
-    /// of answer 3.
+    /// certificate with a mapping that test 9 would not let pass, each cause of
+    /// answer 3, each kind of counters, and counters that alone are too short.
     fn random_sheets(&mut self, sheets: u64) {
         let mut answers = [0; NUMBERS];
         let mut causes = Causes::default();
-        let mut ignored = 0;
+        let mut kinds = Kinds::default();
+        let (mut ignored, mut short) = (0, 0);
         for _ in 0..sheets {
             let sheet = random::sheet(&mut self.random);
             let lengths = self.draw_lengths();
             let answer = self.judge(&sheet, lengths, tree::CAP);
             answers[usize::from(answer.number)] += 1;
+            short += usize::from(lengths.are_short_of_counters_alone());
             if answer.number == sheet::WRONG_COUNT {
                 causes.count(&sheet);
             }
-            let maps = sheet::read(&sheet).is_ok_and(|path| path.last_mapping_names_any());
-            ignored += usize::from(maps && matches!(answer.number, 0 | 10));
+            if let Ok(path) = sheet::read(&sheet) {
+                kinds.count(&path, &answer);
+                let maps = path.last_mapping_names_any();
+                ignored += usize::from(maps && matches!(answer.number, 0 | 10));
+            }
             let length = self.draw_length(&BUFFERS);
             self.rewrite(&sheet, length);
             let length = self.draw_length(&RECORDS);
@@ -147,6 +150,10 @@ impl Run {
         self.seen("answer 3 for n 0", causes.no_certificate, OFTEN, "random sheets");
         self.seen("answer 3 for a present count of 0", causes.empty_list, OFTEN, "random sheets");
         self.seen("anyPolicy mapped by the last, 0 or 10", ignored, OFTEN, "random sheets");
+        self.seen("answer 7 for the counters alone", short, OFTEN, "random sheets");
+        for ((kind, _), times) in KINDS.into_iter().zip(kinds.times) {
+            self.seen(&format!("counters of {kind}"), times, OFTEN, "random sheets");
+        }
     }
 
     /// Every one-bit damage and every cut of a dozen sheets, every cut of

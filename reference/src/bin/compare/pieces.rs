@@ -7,14 +7,14 @@ use reference::harm::HARMS;
 use reference::judge;
 use reference::judge_pieces::{self, Pieces};
 use reference::known::{self, E_SHEET};
-use reference::lent::Lent;
+use reference::lent::{Lengths, Lent, ENOUGH};
 use reference::path::{Path, MAX_CERTIFICATES};
 use reference::pieces::{Fed, FRESH, HEAD, KEPT, STATE};
 use reference::random::{self, Full, Random, FULL_KINDS};
 use reference::random_pieces::{self, Way, WAYS};
 use reference::sheet::{self, LONGEST};
 
-use crate::run::{expected, hex, Lengths, Run, Tables, ENOUGH};
+use crate::run::{expected, hex, Run, Tables};
 use crate::{MORE, OFTEN};
 
 /// The least number of states of any bytes that each answer must get, and of
@@ -146,17 +146,19 @@ impl Run {
     fn finish(&mut self, arriving: &mut Arriving, lengths: Lengths) -> Answer {
         let Arriving { state, fed } = arriving;
         let (before, joined) = (state.slice().to_vec(), fed.joined().to_vec());
+        let path = sheet::read(&joined).ok();
         let tables = Tables::new(lengths, &mut self.random);
-        let whole = tables
-            .clone()
-            .judged(|authority, user, counts| judge::judge_sheet(&joined, authority, user, counts));
-        let finished = tables.judged(|authority, user, counts| {
-            judge_pieces::finish(state.slice(), authority, user, counts)
+        let whole = tables.clone().judged(|authority, user, counts, counters| {
+            judge::judge_sheet(&joined, authority, user, counts, counters)
+        });
+        let finished = tables.judged(|authority, user, counts, counters| {
+            judge_pieces::finish(state.slice(), authority, user, counts, counters)
         });
         let expected = expected(lengths, |authority, user| fed.finish(authority, user));
         let parts = [
             ("number", usize::from(finished.judged.number) < NUMBERS),
             ("graph", finished.shows(&expected)),
+            ("counters counted again", finished.has_recounted(path.as_ref())),
             ("whole", finished == whole),
             ("state", state.holds(&FRESH)),
         ];
@@ -165,6 +167,7 @@ impl Run {
             format!("finish differs, {parts}: {lengths:?}, {got:?}, graph {expected:?}, state {before}, pieces")
         };
         self.check(parts.iter().all(|&(_, same)| same), what, &joined);
+        self.rules(path.as_ref(), &expected, &joined);
         expected
     }
 
@@ -176,8 +179,8 @@ impl Run {
         self.finish(arriving, lengths)
     }
 
-    /// Sheets that were made, cut in every way, with tables that suffice and
-    /// with others.
+    /// Sheets that were made, cut in every way, with slices that suffice and with
+    /// others; those of the known paths also with all lengths.
     fn made_in_pieces(&mut self) {
         let mut arriving = self.fresh_state();
         for path in made_paths(&mut self.random) {
@@ -191,17 +194,26 @@ impl Run {
         }
         for row in known::rows() {
             let sheet = sheet::write(&row.path);
-            let pieces = Way::Few.cut(&sheet, &mut self.random);
-            let answer = self.in_pieces(&mut arriving, &pieces, ENOUGH);
+            let answer = self.with_all_lengths(&mut arriving, &sheet);
             self.check(answer == row.answer, || format!("row {} in pieces", row.name), &sheet);
         }
         for row in known::refused_rows() {
             let sheet = sheet::write(&row.path);
-            let pieces = Way::Few.cut(&sheet, &mut self.random);
-            let answer = self.in_pieces(&mut arriving, &pieces, ENOUGH);
+            let answer = self.with_all_lengths(&mut arriving, &sheet);
             let refused = answer == Answer::bare(row.number, 0);
             self.check(refused, || format!("row {} in pieces", row.name), &sheet);
         }
+    }
+
+    /// One sheet in a few pieces, with all lengths. Returns the answer expected with
+    /// slices that suffice.
+    fn with_all_lengths(&mut self, arriving: &mut Arriving, sheet: &[u8]) -> Answer {
+        for lengths in Lengths::all() {
+            let pieces = Way::Few.cut(sheet, &mut self.random);
+            self.in_pieces(arriving, &pieces, lengths);
+        }
+        let pieces = Way::Few.cut(sheet, &mut self.random);
+        self.in_pieces(arriving, &pieces, ENOUGH)
     }
 
     /// Case E's sheet, and one with a byte more, cut at every set of places.
@@ -323,8 +335,8 @@ impl Run {
         let mut piece = Lent::new(random.below(100), random, Random::byte);
         let fresh = judge_pieces::fresh(state.slice());
         let fed = judge_pieces::feed(state.slice(), piece.slice());
-        let finished = Tables::new(lengths, random).judged(|authority, user, counts| {
-            judge_pieces::finish(state.slice(), authority, user, counts)
+        let finished = Tables::new(lengths, random).judged(|authority, user, counts, counters| {
+            judge_pieces::finish(state.slice(), authority, user, counts, counters)
         });
         let parts = [
             ("fresh", fresh == u32::from(sheet::TOO_SHORT)),
@@ -351,8 +363,10 @@ impl Run {
                 self.check(same, || "Pieces::feed".to_string(), fed.joined());
             }
             let lengths = self.draw_lengths();
-            let finished = Tables::new(lengths, &mut self.random)
-                .judged(|authority, user, counts| pieces.finish(authority, user, counts));
+            let tables = Tables::new(lengths, &mut self.random);
+            let finished = tables.judged(|authority, user, counts, counters| {
+                pieces.finish(authority, user, counts, counters)
+            });
             let expected = expected(lengths, |authority, user| fed.finish(authority, user));
             let same = finished.shows(&expected) && pieces.state() == &FRESH;
             let what = || format!("Pieces::finish, {lengths:?}, {:?}", finished.judged);

@@ -3,13 +3,14 @@
 
 use reference::answer::Answer;
 use reference::beside::{JUDGE_RECORD, JUDGE_SHEET};
+use reference::lent::{Lengths, ENOUGH};
 use reference::random_extensions::Input;
 use reference::register::BYTES;
 use reference::repeats::{self, Alike, Likeness};
 use reference::sheet::{self, ENDS_EARLY, LONGEST, REPEATED_PAIR};
 use reference::{judge, known, known_extensions, record};
 
-use crate::run::{Judgement, Run, ENOUGH};
+use crate::run::{Judgement, Run};
 use crate::DAMAGE_CAP;
 
 impl Run {
@@ -48,6 +49,9 @@ impl Run {
             let judgement = Judgement::of(&JUDGE_RECORD, &record, ENOUGH, &mut self.random);
             self.check(judgement.shows(&refused), || format!("row {}", row.name), &record);
             self.all_lengths(&sheet);
+            for lengths in Lengths::all() {
+                self.judge_record(&record, lengths);
+            }
             self.write_record(&record, LONGEST);
             for length in 0..=sheet.len() {
                 let number = if length < row.bytes { ENDS_EARLY } else { row.number };

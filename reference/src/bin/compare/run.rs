@@ -3,22 +3,16 @@
 use std::fmt::UpperHex;
 use std::mem::size_of;
 
-use reference::answer::{Answer, DEPTHS, PLACES};
+use reference::answer::{Answer, COUNTERS, DEPTHS};
 use reference::beside::{Judges, JUDGE_RECORD, JUDGE_SHEET};
 use reference::judge::{self, Judged, Writing, Written};
-use reference::lent::Lent;
+use reference::lent::{Lengths, Lent, COUNTS, LENT_COUNTERS, TABLES};
 use reference::path::Path;
 use reference::random::Random;
-use reference::{causes, record, sheet, tree};
+use reference::{causes, record, recount, sheet, tree};
 
 /// The failures that are printed whole.
 const SHOWN: usize = 20;
-
-/// Lengths of lent tables.
-pub const TABLES: [usize; 5] = [0, PLACES - 1, PLACES, PLACES + 1, 2 * PLACES];
-
-/// Lengths of lent counts.
-pub const COUNTS: [usize; 5] = [0, DEPTHS - 1, DEPTHS, DEPTHS + 1, 4 * DEPTHS];
 
 /// Lengths of lent buffers.
 pub const BUFFERS: [usize; 5] =
@@ -28,21 +22,10 @@ pub const BUFFERS: [usize; 5] =
 pub const RECORDS: [usize; 5] =
     [0, record::LONGEST - 1, record::LONGEST, record::LONGEST + 1, 2 * record::LONGEST];
 
-/// The lengths of the three tables lent to the judge.
-#[derive(Clone, Copy, Debug)]
-pub struct Lengths {
-    pub authority: usize,
-    pub user: usize,
-    pub counts: usize,
-}
-
-/// Tables that suffice.
-pub const ENOUGH: Lengths = Lengths { authority: PLACES, user: PLACES, counts: DEPTHS };
-
-/// The plain answer with tables of these lengths.
+/// The plain answer with slices of these lengths.
 pub fn expected(lengths: Lengths, plain: impl FnOnce(&mut [u16], &mut [u16]) -> Answer) -> Answer {
     let answer = plain(&mut vec![0; lengths.authority], &mut vec![0; lengths.user]);
-    if lengths.counts < DEPTHS {
+    if lengths.are_short() {
         return Answer::bare(sheet::TOO_SHORT, 0);
     }
     answer
@@ -78,36 +61,38 @@ const READ_RECORD: Writer<u8, u16> = Writer {
     old: Random::word,
 };
 
-/// The tables lent for one judgement.
+/// The slices lent for one judgement.
 #[derive(Clone, PartialEq)]
 pub struct Tables {
     authority: Lent<u16>,
     user: Lent<u16>,
     counts: Lent<u16>,
+    counters: Lent<u16>,
 }
 
 impl Tables {
-    /// Tables full of old values.
+    /// Slices full of old values.
     pub fn new(lengths: Lengths, random: &mut Random) -> Tables {
         Tables {
             authority: Lent::new(lengths.authority, random, Random::word),
             user: Lent::new(lengths.user, random, Random::word),
             counts: Lent::new(lengths.counts, random, Random::word),
+            counters: Lent::new(lengths.counters, random, Random::word),
         }
     }
 
-    /// Has the proved judge judge with these tables.
+    /// Has the proved judge judge with these slices.
     pub fn judged(
         mut self,
-        proved: impl FnOnce(&mut [u16], &mut [u16], &mut [u16]) -> Judged,
+        proved: impl FnOnce(&mut [u16], &mut [u16], &mut [u16], &mut [u16]) -> Judged,
     ) -> Judgement {
-        let Tables { authority, user, counts } = &mut self;
-        let judged = proved(authority.slice(), user.slice(), counts.slice());
+        let Tables { authority, user, counts, counters } = &mut self;
+        let judged = proved(authority.slice(), user.slice(), counts.slice(), counters.slice());
         Judgement { tables: self, judged }
     }
 }
 
-/// The tables after a judgement, and what the proved judge returned.
+/// The slices after a judgement, and what the proved judge returned.
 #[derive(PartialEq)]
 pub struct Judgement {
     tables: Tables,
@@ -115,19 +100,20 @@ pub struct Judgement {
 }
 
 impl Judgement {
-    /// Has the proved judge judge with tables full of old values.
+    /// Has the proved judge judge with slices full of old values.
     pub fn of<I>(
         judges: &Judges<I>,
         input: &[I],
         lengths: Lengths,
         random: &mut Random,
     ) -> Judgement {
-        Tables::new(lengths, random)
-            .judged(|authority, user, counts| (judges.proved)(input, authority, user, counts))
+        Tables::new(lengths, random).judged(|authority, user, counts, counters| {
+            (judges.proved)(input, authority, user, counts, counters)
+        })
     }
 
-    /// Whether number, place, every place of every table and every guard are
-    /// as the answer demands.
+    /// Whether number, place, every place of every slice and every guard are as the
+    /// answer demands.
     pub fn shows(&self, answer: &Answer) -> bool {
         let tables = &self.tables;
         let (mut authority, mut user) = (tables.authority.old(), tables.user.old());
@@ -140,6 +126,25 @@ impl Judgement {
             && tables.authority.holds(&authority)
             && tables.user.holds(&user)
             && tables.counts.holds(&counts)
+            && self.has_counters(answer.counters)
+    }
+
+    /// Whether the counters begin with these and are as they were beyond them;
+    /// after 7 they are as they were.
+    fn has_counters(&self, numbers: [u16; COUNTERS]) -> bool {
+        let mut counters = self.tables.counters.old();
+        if self.judged.number != sheet::TOO_SHORT {
+            let Some(first) = counters.first_chunk_mut() else { return false };
+            *first = numbers;
+        }
+        self.tables.counters.holds(&counters)
+    }
+
+    /// Whether the counters are those that are counted again from the path, if one
+    /// was read, and from the number and place that the proved judge returned.
+    pub fn has_recounted(&self, path: Option<&Path>) -> bool {
+        let Judged { number, place } = self.judged;
+        self.has_counters(recount::counters(path, number, place))
     }
 }
 
@@ -172,12 +177,14 @@ impl Run {
         }
     }
 
-    /// One sheet or record, one set of tables: the proved judge against an
-    /// answer of the graph judge.
+    /// One sheet or record, one set of slices: the proved judge against an answer of
+    /// the graph judge, and its counters against those counted again. The path is
+    /// that of the input, if one is read.
     fn answered<I: UpperHex>(
         &mut self,
         judges: &Judges<I>,
         input: &[I],
+        path: Option<&Path>,
         lengths: Lengths,
         expected: &Answer,
     ) -> Judgement {
@@ -185,21 +192,33 @@ impl Run {
         let (name, got) = (judges.name, judgement.judged);
         let what = || format!("{name} and graph differ, {lengths:?}, {got:?}, graph {expected:?}");
         self.check(judgement.shows(expected), what, input);
+        let what = || format!("{name} has not the counters counted again, {lengths:?}, {got:?}");
+        self.check(judgement.has_recounted(path), what, input);
         judgement
     }
 
-    /// One sheet, one set of tables: the proved judge, on the sheet and on its
+    /// What the counters of an expected answer must show.
+    pub fn rules<I: UpperHex>(&mut self, path: Option<&Path>, expected: &Answer, input: &[I]) {
+        let broken = recount::broken(path, expected);
+        let what = || format!("counters of {expected:?}: {}", broken.unwrap_or_default());
+        self.check(broken.is_none(), what, input);
+    }
+
+    /// One sheet, one set of slices: the proved judge, on the sheet and on its
     /// record, against the graph judge and, within the cap, the tree judge. The
     /// sheet's first cause must be that of its answer. Returns the expected answer.
     pub fn judge(&mut self, sheet: &[u8], lengths: Lengths, cap: usize) -> Answer {
         let expected =
             expected(lengths, |authority, user| (JUDGE_SHEET.plain)(sheet, authority, user));
-        let judgement = self.answered(&JUDGE_SHEET, sheet, lengths, &expected);
-        if let Ok(path) = sheet::read(sheet) {
+        let path = sheet::read(sheet).ok();
+        let judgement = self.answered(&JUDGE_SHEET, sheet, path.as_ref(), lengths, &expected);
+        self.rules(path.as_ref(), &expected, sheet);
+        if let Some(path) = &path {
             if !expected.is_refusal() {
-                self.grow(&path, sheet, &judgement, cap);
+                self.grow(path, sheet, &judgement, cap);
             }
-            self.answered(&JUDGE_RECORD, &record::numbers(&path), lengths, &expected);
+            let record = record::numbers(path);
+            self.answered(&JUDGE_RECORD, &record, Some(path), lengths, &expected);
         }
         if let Some(agrees) = causes::agrees(sheet, expected.number) {
             let what = || format!("the sheet has not the cause of its answer {}", expected.number);
@@ -208,12 +227,14 @@ impl Run {
         expected
     }
 
-    /// One record, one set of tables: the proved judge against the graph
+    /// One record, one set of slices: the proved judge against the graph
     /// judge. Returns the expected answer.
     pub fn judge_record(&mut self, record: &[u16], lengths: Lengths) -> Answer {
         let expected =
             expected(lengths, |authority, user| (JUDGE_RECORD.plain)(record, authority, user));
-        self.answered(&JUDGE_RECORD, record, lengths, &expected);
+        let path = record::path_of(record).ok();
+        self.answered(&JUDGE_RECORD, record, path.as_ref(), lengths, &expected);
+        self.rules(path.as_ref(), &expected, record);
         expected
     }
 
@@ -277,6 +298,11 @@ impl Run {
             authority: table(&mut self.random),
             user: table(&mut self.random),
             counts: if self.random.chance(2) { self.random.pick(&COUNTS) } else { DEPTHS },
+            counters: if self.random.chance(4) {
+                self.random.pick(&LENT_COUNTERS)
+            } else {
+                COUNTERS
+            },
         }
     }
 

@@ -1,22 +1,36 @@
--- `records::judge_exported` gives the outcome of the judge on records as a number and three slices (demands/proofs/Exported).
+-- `records::judge_exported` gives the outcome of the judge on records as a number and four slices (demands/proofs/Exported).
 use native.Mathlib.Omega.{arith}
 use mathlib.Core.Path.{_≡_, _∙_}
 use lib.ListN.{length}
 use Rattle.rules.specs.Limits as Limits
-use Rattle.demands.proofs.Exported.{short-authority, short-user, short-counts, exports}
+use Rattle.demands.proofs.Exported.{short-authority, short-user, short-counts, short-counters, exports}
 use Rattle.records.proofs.Given.{after-long, record-export}
 use borrow.Author.Needs.{needs}
 use Rattle.records.proofs.export.judge_exported.Statement.{statement}
 use Rattle.records.proofs.export.judge_exported.Tie as tie
 
+-- before the counters are put: the answer, and the slices that are long enough
+
+abbrev judged : tie.After-put-arg → tie.After-judge-record
+judged p = p .before .before .before .before .before .before .before .before .before .before .before
+
+abbrev passed : tie.After-put-arg → tie.Else4
+passed p = judged p .before .before .before
+
+counts-all : (j : tie.After-judge-record) → length (j .judge-record .result .counts) ≡ Limits.depths
+counts-all j = search needs
+
 returns : tie.Need-returns
-returns c = short-authority _ _ _ _ (c .if1 .taken) ∙ record-export _ _ _ _
+returns c = short-authority _ _ _ _ _ (c .if1 .taken) ∙ record-export _ _ _ _ _
 
 returns-2 : tie.Need-returns-2
-returns-2 c = short-user _ _ _ _ (c .if2 .taken) ∙ record-export _ _ _ _
+returns-2 c = short-user _ _ _ _ _ (c .if2 .taken) ∙ record-export _ _ _ _ _
 
 returns-3 : tie.Need-returns-3
-returns-3 c = short-counts _ _ _ _ (c .if3 .taken) ∙ record-export _ _ _ _
+returns-3 c = short-counts _ _ _ _ _ (c .if3 .taken) ∙ record-export _ _ _ _ _
+
+returns-4 : tie.Need-returns-4
+returns-4 c = short-counters _ _ _ _ _ (c .if4 .taken) ∙ record-export _ _ _ _ _
 
 judge-record-requires : tie.Need-judge-record-requires
 judge-record-requires c κs = search needs
@@ -25,7 +39,10 @@ slice-aggregate-copy : tie.Need-slice-aggregate-copy
 slice-aggregate-copy c = search needs
 
 copy-requires : tie.Need-copy-requires
-copy-requires c κs = let h : length (c .before .before .before .before .before .before .before .judge-record .result .counts) ≡ Limits.depths = search needs in omega arith
+copy-requires c κs = omega (arith, counts-all (c .before .before .before .before .before .before .before))
+
+put-requires : tie.Need-put-requires
+put-requires c κs = omega (arith, passed c .if4 .left)
 
 cast-result : tie.Need-cast-result
 cast-result c = search needs
@@ -48,13 +65,17 @@ same-length-2 c = search needs
 same-length-3 : tie.Need-same-length-3
 same-length-3 c = search needs
 
-returns-4 : tie.Need-returns-4
-returns-4 c =
-    let j = c .before .before .before .before .before .before .before .before .before .before .before .before .judge-record in
-    let k = c .before .before .before .before .before .before .before .before .before .before .before .before .before .before .before in
-    let a = k .before .before .if1 .left in
-    let u = k .before .if2 .left in
-    exports _ _ _ _ _ _ _ _ (j .ensures .1 .0 ∙ after-long _ _ _ a u) (search needs) (c .before .before .before .before .copy .ensures .1) a u (k .if3 .left) ∙ record-export _ _ _ _
+same-length-4 : tie.Need-same-length-4
+same-length-4 c = search needs
+
+returns-5 : tie.Need-returns-5
+returns-5 c =
+    let p = c .before .before .before .before .before in
+    let k = passed p in
+    let a = k .before .before .before .if1 .left in
+    let u = k .before .before .if2 .left in
+    exports _ _ _ _ _ _ _ _ _ _ (judged p .judge-record .ensures .1 .0 ∙ after-long _ _ _ a u) (counts-all (judged p)) (p .before .before .before .copy .ensures .1) (c .before .before .before .before .put .ensures) a u (k .before .if3 .left) (k .if4 .left)
+    ∙ record-export _ _ _ _ _
 
 pub judge-exported-spec : {M : Type 1} → statement M
 judge-exported-spec =
@@ -63,9 +84,11 @@ judge-exported-spec =
     returns
     returns-2
     returns-3
+    returns-4
     judge-record-requires
     slice-aggregate-copy
     copy-requires
+    put-requires
     cast-result
     cast-result-2
     mul-result
@@ -73,4 +96,5 @@ judge-exported-spec =
     same-length
     same-length-2
     same-length-3
-    returns-4)
+    same-length-4
+    returns-5)
