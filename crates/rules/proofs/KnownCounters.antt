@@ -1,5 +1,4 @@
 -- The three counters at the start, after a certificate and at the end: one table each, and one claim that covers every row, by computation.
-use Prim.Native.Nat.{ℕ}
 use mathlib.Core.Bool.{Bool, true, false}
 use mathlib.Core.List.{List, [], _∷_, map}
 use mathlib.Core.Path.{_≡_, refl}

@@ -18,7 +18,7 @@ use Rattle.rules.specs.Layout.{counted}
 use Rattle.rules.specs.Answers.{Answer, failed}
 use Rattle.rules.specs.Graph.{test-9}
 use Rattle.laws.proofs.Sets.{by-cases, pick-yes, pick-no, sorted-ascending, sorted-same, mem-ascending, or-false}
-use Rattle.levels.proofs.Levels.{Level, Step, none, new-level, mapped, expected, conclude, run, judged}
+use Rattle.levels.proofs.Levels.{Step, none, new-level, mapped, expected, conclude, run, judged}
 use Rattle.rules.specs.declared.Counters.{Counters as StoredCounters}
 use Rattle.names.specs.Names.{place}
 use Rattle.names.specs.Places.{at}
