@@ -1,6 +1,6 @@
 /* Builds a path in C as a record, case H of document 01 with user 50; writes its sheet, and judges the sheet and the record.
  *
- *     rt staticlib judge
+ *     bin/library judge
  *     cc -Iinclude examples/build.c target/staticlib/libjudge.a -o build
  */
 #include "judge.h"

@@ -1,6 +1,6 @@
 /* From certificates to a verdict: reads the policy extensions of a path's certificates, writes the path's sheet and judges it.
  *
- *     rt staticlib judge
+ *     bin/library judge
  *     cc -Iinclude examples/certificates.c target/staticlib/libjudge.a -o certificates
  *     ./certificates POLICY CERTIFICATE.der ..
  *

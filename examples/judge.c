@@ -1,6 +1,6 @@
 /* Calls the judge from C: a sheet on standard input; its verdict and place on standard output, and after a verdict the counters.
  *
- *     rt staticlib judge
+ *     bin/library judge
  *     cc -Iinclude examples/judge.c target/staticlib/libjudge.a -o judge
  */
 #include "judge.h"

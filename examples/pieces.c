@@ -1,6 +1,6 @@
 /* Judges a sheet that arrives in pieces: each read of standard input is a piece, and the end of the input is the finish.
  *
- *     rt staticlib pieces
+ *     bin/library pieces
  *     cc -Iinclude examples/pieces.c target/staticlib/libpieces.a -o pieces
  *     (head -c 3 examples/E.sheet; sleep 1; tail -c +4 examples/E.sheet) | ./pieces
  */

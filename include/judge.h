@@ -1,5 +1,5 @@
-/* The policy judge for C. Link target/staticlib/libjudge.a, which `rt staticlib judge` writes (x86-64 Linux). The functions for sheets that arrive
- * in pieces, at the end, are in target/staticlib/libpieces.a, which `rt staticlib pieces` writes; a program may link both.
+/* The policy judge for C. Link target/staticlib/libjudge.a, which `bin/library judge` writes (x86-64 Linux). The functions for sheets that arrive
+ * in pieces, at the end, are in target/staticlib/libpieces.a, which `bin/library pieces` writes; a program may link both.
  *
  * Each slice is a pointer and the number of its elements. A pointer may not be null, also where the length is 0, a slice that is written
  * may not overlap another, and each must have as many elements as its length says. Nothing else is asked: any bytes may come in, and a
