@@ -12,6 +12,6 @@ invariant_of-self g c =
     let places : length n.names ≡ g.row.PLACES = search rules in
     let count : length (take n.used n.names) ≡ n.used = length-take-le n.used n.names c.self.invariant.names_fit in
     let now = c.self.view_is in
-    linked_next n.names n.links n.heads n.used c.args.policy c.slot_of-slot.result c.self.invariant (omega (arith, ap length now))
+    linked_next n.names n.links n.heads n.used c.args.policy c.slot_of-slot.result c.self.invariant (omega (arith, ap length now)) (omega (arith, ap length now))
     (c.slot_of-slot.ensures.0 ∙ ap (λ m. slot m c.args.policy) (sym slots)) (omega arith)
     (ap (place c.args.policy) now ∙ c.requires.new ∙ sym (ap length now) ∙ count)

@@ -7,8 +7,7 @@ use Rattle.names.proofs.Names.place_of.Goals.{then-k-self, else-k-self}
 
 pub overflow_cast-result : goal.overflow_cast-result
 overflow_cast-result g c =
-    let places : length c.self.inside.names ≡ g.row.PLACES = search rules in
-    omega (arith, c.find-k.ensures, place_most c.args.policy c.args.self.now, c.requires, c.self.invariant.small)
+    omega (arith, c.find-k.ensures, place_most c.args.policy c.args.self.now, c.requires.few)
 
 pub returns-clause-names_after : goal.returns-clause-names_after
 returns-clause-names_after g c =
