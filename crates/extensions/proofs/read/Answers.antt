@@ -2,9 +2,11 @@
 use mathlib.Core.Path.{◌≡◌, sym, ap, ◌∙◌}
 use native.Mathlib.Omega.{arith}
 use lib.ListN.{length}
+use Rattle.std.proofs.lemmas.Result.{IfOk-at_ok}
 use Rattle.laws.proofs.Refused.{number_nonzero}
 use Rattle.extension_rules.specs.Outcomes.{fine}
 use Rattle.identify.specs.Known.{known}
+use Rattle.der.specs.Results.{outcome_of}
 use Rattle.extensions.specs.Gathering.{certificate_of}
 use Rattle.extension_laws.proofs.Outcomes.{when_yes, when_no}
 use Rattle.extensions.proofs.Certificates.{certificate_size}
@@ -27,11 +29,11 @@ pub returns-in_err-skips-clause-fact : goal.returns-in_err-skips-clause-fact
 returns-in_err-skips-clause-fact c =
     passed_number _ _ c.from_residual.ensures.1
     (refusal _ _ _ _ _ _ _ (omega arith) (omega arith) _ _ (number_nonzero _) c.clear_certificate.ensures
-    (when_yes _ _ (sym c.is_register.ensures ∙ c.if-not-is_register.false) ∙ sym (c.in_err-skips.ensures.gathered c.args.own)))
+    (when_yes _ _ (sym c.is_register.ensures ∙ c.if-not-is_register.false) ∙ sym (c.gather.ensures.gathered c.args.own) ∙ ap (outcome_of _) c.in_err-skips.was))
 
 pub returns-clause-few_places : goal.returns-clause-few_places
 returns-clause-few_places c =
-    let full = c.in_ok-skips.ensures.full in
+    let full = IfOk-at_ok _ c.in_ok-skips.was c.gather.ensures.full in
     let ps = c.as_slice.result.now in
     let is = c.issuers.result.now in
     let ss = c.subjects.result.now in
@@ -41,14 +43,15 @@ returns-clause-few_places c =
 
 pub returns-clause-fact : goal.returns-clause-fact
 returns-clause-fact c =
-    let full = c.in_ok-skips.ensures.full in
+    let full = IfOk-at_ok _ c.in_ok-skips.was c.gather.ensures.full in
     let ps = c.as_slice.result.now in
     let is = c.issuers.result.now in
     let ss = c.subjects.result.now in
     let paired : length ss ≡ length is = omega (arith, ap length c.subjects.ensures.places, ap length c.issuers.ensures.places, c.subjects.ensures.paired) in
     let size = certificate_size c.in_ok-skips.skips c.args.own ps is ss paired (omega (arith, ap length c.as_slice.ensures.places, full.few_policies)) (omega (arith, ap length c.issuers.ensures.places, full.few_pairs)) in
     reading _ _ _ _ _ _ _ (omega arith) (omega arith) _ c.gather.new.f _ _ _ (sym c.is_register.ensures ∙ c.if-not-is_register.false)
-    (sym (c.in_ok-skips.ensures.gathered c.args.own)
+    (sym (c.gather.ensures.gathered c.args.own)
+    ∙ ap (outcome_of _) c.in_ok-skips.was
     ∙ (λ i. fine (record { certificate = certificate_of c.in_ok-skips.skips c.args.own (sym c.as_slice.ensures.places i) (sym c.issuers.ensures.places i) (sym c.subjects.ensures.places i); known = known c.args.reg.now c.gather.new.f })))
     (placed_size _ _ _ _ c.put_certificate-places.ensures)
     c.enter_fresh.ensures
