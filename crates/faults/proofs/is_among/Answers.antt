@@ -4,7 +4,6 @@ use mathlib.Core.Path.{refl, sym, ap, ◌∙◌}
 use native.Mathlib.Omega.{arith}
 use lib.Dec.{eqb}
 use lib.ListN.{get_or}
-use Rattle.std.proofs.lemmas.List.{take_all}
 use Rattle.rules.specs.Sets.{◌∈◌}
 use Rattle.faults.proofs.Laws.{seen_more}
 use Rattle.faults.proofs.is_among.Goals as goal
@@ -18,8 +17,3 @@ loop-value-preserved c =
     let a = c.args in
     let i = c.loop-value.value-index in
     ap (λ found. found || eqb a.policy (get_or a.values.now i 0)) c.loop-value.invariant ∙ sym (seen_more a.policy i a.values.now (omega arith))
-
-pub returns : goal.returns
-returns c =
-    let a = c.args in
-    c.loop-value.invariant ∙ ap (λ xs. a.policy ∈ xs) (take_all c.loop-value.value-index a.values.now (omega arith))
