@@ -1,13 +1,13 @@
 use Rattle.std.proofs.Common.{◌≡◌, length, ap, ◌∙◌, sym, arith, rules}
 use lib.Seq.{length-take-le}
-use Rattle.names.proofs.Places.{place_most}
 use Rattle.names.proofs.Numbers.{with_new, with_known}
+use Rattle.names.proofs.Links.{linked_place}
 use Rattle.names.proofs.Names.place_of.Goals as goal
 use Rattle.names.proofs.Names.place_of.Goals.{then-k-self, else-k-self}
 
 pub overflow_cast-result : goal.overflow_cast-result
 overflow_cast-result g c =
-    omega (arith, c.find-k.ensures, place_most c.args.policy c.args.self.now, c.requires.few)
+    omega (arith, c.find-k.ensures, linked_place c.self.invariant c.self.view_is (λ j. search rules) c.args.policy (search rules))
 
 pub returns-clause-names_after : goal.returns-clause-names_after
 returns-clause-names_after g c =
