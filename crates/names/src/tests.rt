@@ -2,6 +2,7 @@ use crate::Names;
 use std::test::*;
 
 #[test]
+#[tactic(auto, using(crate::proofs::Places::place_nil))]
 fn names_come_in_the_order_of_the_list(rt: HostRuntime) {
     let mut names = Names::<6, 2>::new();
     names.add(7);
